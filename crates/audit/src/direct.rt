@@ -1,5 +1,5 @@
 //! The audit without a world, where one pass finds that nothing is wrong with keys.
-ghost use Rattle.std.specs.Prelude.{◌≡◌, IfOk, IfErr, IfSome, [], true};
+ghost use Rattle.std.specs.Prelude.{◌≡◌, IfOk, IfErr, IfSome, [], map, true};
 ghost use Rattle.std.specs.List.{list_all};
 ghost use Rattle.std.specs.FinSet as set;
 ghost use Rattle.rows.specs.Apply as apply;
@@ -94,6 +94,30 @@ pub fn audit_keys_of(
         return Ok(Verdict::Sound);
     }
     audit_keys_with_world(alloc, opened, rows, journals)
+}
+
+/// Whether one pass over journals finds their keys to be sound. Where it does, the first entry of each GTID beyond the opening set is put
+/// into a list that is empty, in the order of GTIDs: all that their world has.
+pub fn list_sound<'a>(
+    alloc: Global,
+    list: &mut Vec<&'a Entry>,
+    opened: &GtidSet,
+    schema: &Schema,
+    journals: &'a [Journal],
+) -> Result<bool, AllocError>
+    requires { list.old.items ≡ [] }
+    ensures sound { IfOk result (λ yes. yes ≡ true → (rows : apply.Rows) → verdict_of_keys (world_of schema.now opened.now rows journals.now) journals.now ≡ Sound) }
+    ensures listed { IfOk result (λ yes. yes ≡ true → map (λ e. e.now) list.new.items ≡ in_order (first_contents opened.now (all_entries journals.now))) }
+{
+    keep_rules(journals);
+    if !begin_in_order(alloc, opened, journals)? {
+        return Ok(false);
+    }
+    if !list_apart(alloc, list, opened, schema, journals)? {
+        return Ok(false);
+    }
+    let ascending = are_ascending(list);
+    Ok(ascending)
 }
 
 /// The verdict on journals that begin within the opening set and are in order, where one pass over them finds their keys to be

@@ -60,7 +60,7 @@ mod standing;
 mod touches;
 mod unequal;
 
-pub use direct::{audit_keys_of, audit_of};
+pub use direct::{audit_keys_of, audit_of, list_sound};
 pub use finding::{audit, audit_gtids, audit_keys, keep_rules};
 pub use laws::faults_are_all;
 pub use listing::{AllFaults, audit_all};

@@ -1,7 +1,8 @@
 //! The command `apply`.
-ghost use Rattle.std.specs.Prelude.{◌≤◌, IfOk, IfErr};
+ghost use Rattle.std.specs.Prelude.{◌≤◌, IfOk, IfErr, IfSome};
 ghost use Rattle.std.specs.Thread.{IsSync};
 ghost use Rattle.serving.specs.Faults.{IsBundleFault};
+ghost use Rattle.serving.specs.declared.order.Order.TheVariants.{BySource};
 ghost use Rattle.serving.specs.Servable.{IsServable};
 ghost use Rattle.serving.specs.Verdicts.{HasMerged, IsStateOrVerdict, IsUnsound};
 ghost use Rattle.commands.specs.Printed.{Holds, GivesUp, to_all, IsDone, HasFailed};
@@ -17,9 +18,12 @@ use crate::side_by_side::serve_beside;
 use crate::streams::Streams;
 use applier::{Gate, NoGate};
 use gtid_report::{Fault, render_state};
+use gtid_set::GtidSet;
 use journal::{Entry, Journal};
 use replica_core::Core;
+use rows::Rows;
 use serving::{Order, StateOrVerdict, serve};
+use source_shares::merge_by_shares;
 use std::alloc::{AllocError, Global};
 use std::mem;
 use std::sync::Wait;
@@ -27,15 +31,22 @@ use std::thread::Threads;
 use txn_journal::Bundle;
 use world::Verdict;
 
-/// The lines of a replica's state.
-fn state_answer(alloc: Global, core: &Core) -> Result<Answer, AllocError>
-    ensures { IfOk result (λ answer. Holds answer (printed_state core.now.state.executed core.now.state.rows)) }
+/// The lines of an executed set and rows.
+fn printed_answer(alloc: Global, executed: &GtidSet, rows: &Rows) -> Result<Answer, AllocError>
+    ensures { IfOk result (λ answer. Holds answer (printed_state executed.now rows.now.rows)) }
 {
-    let text = render_state(alloc, core.executed(), core.rows())?;
+    let text = render_state(alloc, executed, rows)?;
     Ok(Answer {
         outcome: Outcome::Done,
         text,
     })
+}
+
+/// The lines of a replica's state.
+fn state_answer(alloc: Global, core: &Core) -> Result<Answer, AllocError>
+    ensures { IfOk result (λ answer. Holds answer (printed_state core.now.state.executed core.now.state.rows)) }
+{
+    printed_answer(alloc, core.executed(), core.rows())
 }
 
 /// The line of a verdict on a bundle that is not Sound.
@@ -98,6 +109,53 @@ fn apply_beside<R: Threads>(
     Ok(answer?)
 }
 
+/// How many shares of the sources are applied side by side at most: more don't pay on the machines that were measured.
+const MOST_SHARES: usize = 4;
+
+/// What a bundle results in where threads apply shares of its sources, which share no key, and nothing where it can't be had so. What they
+/// leave is left to the end of the process.
+fn apply_by_shares<R: Threads + Sync>(
+    rt: &R,
+    alloc: Global,
+    bundle: &Bundle,
+    workers: u8,
+) -> Result<Option<Answer>, AllocError>
+    requires can { IsServable bundle.now }
+    requires workers { 1 ≤ workers }
+    ensures { IfOk result (λ found. IfSome found (λ answer. Holds answer (apply_answer BySource bundle.now))) }
+{
+    let most = usize::from(workers).min(MOST_SHARES);
+    let opened = bundle.opening_set();
+    let found = merge_by_shares(rt, alloc, opened, bundle.rows(), bundle.journals(), most);
+    let Some(merged) = found else {
+        return Ok(None);
+    };
+    let answer = printed_answer(alloc, &merged.executed, &merged.rows);
+    mem::forget(merged);
+    Ok(Some(answer?))
+}
+
+/// What a bundle of small transactions results in with two workers and more: by shares of its sources, or else beside the audit.
+fn apply_small<R: Threads + Sync>(
+    rt: &R,
+    alloc: Global,
+    bundle: &Bundle,
+    order: Order,
+    workers: u8,
+) -> Result<Answer, Fault>
+    requires can { IsServable bundle.now }
+    requires workers { 1 ≤ workers }
+    ensures comes { IfOk result (λ answer. Holds answer (apply_answer order bundle.now)) }
+    ensures fault { IfErr result (GivesUp (IsBundleFault bundle.now)) }
+{
+    if let Order::BySource = order {
+        if let Some(answer) = apply_by_shares(rt, alloc, bundle, workers)? {
+            return Ok(answer);
+        }
+    }
+    apply_beside(rt, alloc, bundle, order)
+}
+
 /// What a bundle results in where workers apply it. What they leave is left to the end of the process.
 fn apply_together<G: Gate + Sync, R: Threads + Wait + Sync>(
     rt: &R,
@@ -150,8 +208,9 @@ fn are_small(journals: &[Journal]) -> bool {
 }
 
 /// What a bundle results in: the same for every number of workers and every order of their steps. One
-/// worker is the calling thread. With more, a second thread audits the keys while the first serves the
-/// journals and applies what it receives. Where transactions have 4,096 changes and more on average so many
+/// worker is the calling thread. With more, threads apply shares of the sources, where these share no key and one pass over the
+/// journals shows it; else a second thread audits the keys while the first serves the journals and applies what it receives. Where
+/// transactions have 4,096 changes and more on average so many
 /// workers apply them, once all are received, and these alone pass the gate: with smaller ones receiving
 /// all first takes longer than applying each at once. The bundle can be served, as each that was read can.
 /// A refusal is `SourcesFull`, where the GTIDs of all journals together are of more than 65,536 sources, or
@@ -173,7 +232,7 @@ pub fn apply_decoded<G: Gate + Sync, R: Threads + Wait + Sync>(
     if workers == 1 {
         apply_alone(alloc, bundle, order)
     } else if are_small(bundle.journals()) {
-        apply_beside(rt, alloc, bundle, order)
+        apply_small(rt, alloc, bundle, order, workers)
     } else {
         apply_together(rt, alloc, bundle, order, workers, gate)
     }
