@@ -5,7 +5,7 @@ use Rattle.std.specs.List.{list_all}
 use Rattle.std.specs.Char.{is_ascii_digit}
 use Rattle.std.specs.Str.{bytes_eq}
 use Rattle.std.specs.FinSet as set
-use Rattle.std.proofs.lemmas.Bool.{and_parts, and_from, ne_eqb, false_from_ne_true}
+use Rattle.std.proofs.lemmas.Bool.{and_parts, and_from, false_from_ne_true}
 use Rattle.std.proofs.lemmas.Bool.Decides.{nat_tests}
 use Rattle.std.proofs.lemmas.Fmt.{decimal_digit, decimal_step, digits_decimal}
 use Rattle.std.proofs.lemmas.Nat.{div-mul-add, mod-mul-add}
@@ -52,24 +52,6 @@ next_digit n d text rest after h few low high e =
       numbered = (omega (arith, h.numbered.0), omega (arith, few, digit));
     }
 
--- one number, or two with a hyphen between
-pub one_number : (text rest : List ℕ) (n : ℕ) → IsNumberAt text n rest → AreNumbersAt text n n rest
-one_number text rest n h = record { text_is = h.text_is ∙ ap (λ (l : List ℕ). l ++ rest) (sym same); low = h.numbered; high = h.numbered; ordered = omega arith }
-  where
-    same : numbers_text n n ≡ decimal n
-    same = rw (let e : eqb n n ≡ true = grind (arith, nat_tests) in e) refl
-
-pub two_numbers : (text rest digits after : List ℕ) (lo hi : ℕ) → IsNumberAt text lo rest → rest ≡ 45 ∷ digits → IsNumberAt digits hi after → lo < hi → AreNumbersAt text lo hi after
-two_numbers text rest digits after lo hi h e k less = record {
-  text_is = h.text_is ∙ ap (λ (l : List ℕ). decimal lo ++ l) (e ∙ ap (λ (l : List ℕ). 45 ∷ l) k.text_is) ∙ sym (append_assoc (decimal lo) (45 ∷ decimal hi) after) ∙ ap (λ (l : List ℕ). l ++ after) (sym both);
-  low = h.numbered;
-  high = k.numbered;
-  ordered = omega (arith, less);
-}
-  where
-    both : numbers_text lo hi ≡ decimal lo ++ 45 ∷ decimal hi
-    both = rw (ne_eqb lo hi (λ (same : lo ≡ hi). omega (arith, less, same))) refl
-
 -- ---- intervals
 
 ascii_found : {A : Type 0} (w : List ℕ) (o : Option A) (x : A) → if_ascii w o ≡ Some x → o ≡ Some x
@@ -89,38 +71,6 @@ first_span text front behind numbers rest s e source colon h fits = record {
   follows = refl;
   usable = record { source = fits; low = h.low; high = h.high; ordered = h.ordered };
 }
-
--- one of the source of the interval before it
-pub same_source : (text numbers rest : List ℕ) (last : Span) (lo hi : ℕ) → IsUsableSpan last → text ≡ 58 ∷ numbers → AreNumbersAt numbers lo hi rest → last.hi + 1 < lo
-    → IsSpanAt (Some last) text (record { source = last.source; lo = lo; hi = hi }) rest
-same_source text numbers rest last lo hi u e h less = record {
-  text_is = e ∙ ap (λ (l : List ℕ). 58 ∷ l) h.text_is ∙ ap (λ (l : List ℕ). l ++ rest) (sym is);
-  follows = behind;
-  usable = record { source = u.source; low = h.low; high = h.high; ordered = h.ordered };
-}
-  where
-    itself : eqb last.source last.source ≡ true
-    itself = grind (arith, nat_tests)
-
-    is : next_text (Some last.source) (record { source = last.source; lo = lo; hi = hi }) ≡ 58 ∷ numbers_text lo hi
-    is = rw itself refl
-
-    behind : is_behind last (record { source = last.source; lo = lo; hi = hi }) ≡ true
-    behind = grind (arith, nat_tests)
-
--- one of another source
-pub other_source : (text other rest : List ℕ) (last s : Span) → text ≡ 44 ∷ other → IsSpanAt None other s rest → last.source < s.source → IsSpanAt (Some last) text s rest
-other_source text other rest last s e h less = record {
-  text_is = e ∙ ap (λ (l : List ℕ). 44 ∷ l) h.text_is ∙ ap (λ (l : List ℕ). l ++ rest) (sym is);
-  follows = behind;
-  usable = h.usable;
-}
-  where
-    is : next_text (Some last.source) s ≡ 44 ∷ span_text s
-    is = rw (ne_eqb last.source s.source (λ (same : last.source ≡ s.source). omega (arith, less, same))) refl
-
-    behind : is_behind last s ≡ true
-    behind = grind (arith, nat_tests)
 
 next_some : (last : Span) (s : Span) → 0 < length (next_text (Some last.source) s)
 next_some last s = elim (eqb last.source s.source) as (λ b. 0 < length (cond b (58 ∷ numbers_text s.lo s.hi) (44 ∷ span_text s))) [ true ↦ omega arith | false ↦ omega arith ]
