@@ -1,7 +1,7 @@
 //! Sets as words, read in one pass.
 //!
-//! The way of most words. It gives up at a number above 9,223,372,036,854,775,799, where memory is refused, and at all that is no set:
-//! then `gtids` reads the word in passes, with the exact fault.
+//! The way of most words. It gives up at a number above 9,223,372,036,854,775,799, where memory is refused or the set is full, and at all
+//! that is no set: then `gtids` reads the word in passes, with the exact fault.
 ghost use Rattle.std.specs.Prelude.{◌≡◌, ◌<◌, ◌^◌, IsTrue, IfSome, Some, None, List, ℕ};
 ghost use Rattle.gtid_text.specs.Written.{IsUsableSpan};
 ghost use Rattle.journal_words.specs.Gtids.{set_of_word};
