@@ -1,3 +1,4 @@
 pub mod AsciiLemmas
 pub mod SpanLaws
 pub mod SourceCount
+mod OnePassLemmas

@@ -12,6 +12,7 @@ ghost use Rattle.journal_words.specs.Gtids.{is_ascii_byte, source_of_word, gtid_
 ghost use Rattle.gtid_set.specs.Full.{HasManySources};
 ghost use Rattle.gtid_set.specs.declared.fault.SetFault.TheVariants.{SourcesFull};
 
+use crate::one_pass::set_in_one_pass;
 use gtid_set::{GtidSet, SetFault};
 use gtid_text::{
     Gtid, SourceId, Span, TextFault, count_sources, parse_gtid, parse_source, parse_spans,
@@ -198,14 +199,27 @@ fn has_many_sources(word: &[u8]) -> bool
     }
 }
 
-/// The set that the word parses as. A fault is the first that was met.
-fn parse_set(alloc: Global, word: &[u8]) -> Result<Option<GtidSet>, SetFault>
+/// The set that the word parses as, in passes over it. A fault is the first that was met.
+#[cold]
+#[inline(never)]
+fn parse_in_passes(alloc: Global, word: &[u8]) -> Result<Option<GtidSet>, SetFault>
     ensures found { IfOk result (λ found. found ≡ set_of_word word.now) }
     ensures fault { IfErr result (λ f. IsWordFault f (set_of_word word.now)) }
 {
     match spans_word(alloc, word)? {
         Some(spans) => Ok(Some(set_of(alloc, &spans)?)),
         None => Ok(None),
+    }
+}
+
+/// The set that the word parses as. A fault is the first that was met.
+fn parse_set(alloc: Global, word: &[u8]) -> Result<Option<GtidSet>, SetFault>
+    ensures found { IfOk result (λ found. found ≡ set_of_word word.now) }
+    ensures fault { IfErr result (λ f. IsWordFault f (set_of_word word.now)) }
+{
+    match set_in_one_pass(alloc, word) {
+        Some(set) => Ok(Some(set)),
+        None => parse_in_passes(alloc, word),
     }
 }
 

@@ -1,7 +1,7 @@
 use Rattle.std.proofs.Common.{ap, sym, ◌∙◌, option_map}
 use Rattle.gtid_set.specs.Spans.{is_merged}
 use Rattle.journal_words.proofs.SpanLaws.{word_merged}
-use Rattle.journal_words.proofs.gtids.parse_set.Goals as goal
+use Rattle.journal_words.proofs.gtids.parse_in_passes.Goals as goal
 
 pub set_of-requires : goal.set_of-requires
 set_of-requires c =
