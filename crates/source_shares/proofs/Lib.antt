@@ -1,3 +1,3 @@
 pub mod Unions
-pub mod Merging
-pub mod Joining
+pub mod Merges
+pub mod Joins

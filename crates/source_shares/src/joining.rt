@@ -17,7 +17,7 @@ pub(crate) fn are_all_there(parts: &[Option<Rows>]) -> bool
 /// refused.
 fn join_rest(opening: &Rows, joined: Rows, parts: Vec<Option<Rows>>) -> Option<Rows>
     requires { AreJoinedSoFar opening.now parts.items joined }
-    ensures { IfSome result (λ rows. (them : AreJoinedSoFar opening.now parts.entry.items joined.entry) → HoldsShare them.world them.whole (λ _. true) rows.rows) }
+    ensures { IfSome result (λ rows. (them : AreJoinedSoFar opening.now parts.items joined) → HoldsShare them.world them.whole (λ _. true) rows.rows) }
 {
     let mut left = parts;
     match left.pop() {
@@ -33,7 +33,7 @@ fn join_rest(opening: &Rows, joined: Rows, parts: Vec<Option<Rows>>) -> Option<R
 /// The rows of all shares, from the same opening rows, joined, unless one of them has none or memory is refused.
 pub(crate) fn join_all(opening: &Rows, parts: Vec<Option<Rows>>) -> Option<Rows>
     requires { AreShares opening.now parts.items }
-    ensures { IfSome result (λ rows. (them : AreShares opening.now parts.entry.items) → HoldsShare them.world them.whole (λ _. true) rows.rows) }
+    ensures { IfSome result (λ rows. (them : AreShares opening.now parts.items) → HoldsShare them.world them.whole (λ _. true) rows.rows) }
 {
     let mut left = parts;
     match left.pop() {

@@ -1,6 +1,6 @@
 -- The rows of shares, joined, are those of all journals together.
-use Rattle.std.proofs.Common.{◌≡◌, ℕ, zero, suc, ◌<◌, ◌+◌, ◌==◌, Bool, true, false, cond, ◌&&◌, inl, inr, List, [], ◌∷◌, length, map, Option, Some, None, Ok, refl, sym, ap, ◌∙◌, subst, arith}
-use Rattle.std.specs.Prelude.{slice_get, is_some, IsOk}
+use Rattle.std.proofs.Common.{◌≡◌, ℕ, zero, suc, ◌<◌, ◌==◌, Bool, true, false, cond, inl, inr, List, [], ◌∷◌, length, Option, Some, None, Ok, refl, sym, ap, ◌∙◌, arith}
+use Rattle.std.specs.Prelude.{slice_get, is_some}
 use Rattle.std.specs.List.{filter, list_all, AllByRecursion}
 use Rattle.std.specs.Option.{unwrap_or}
 use Rattle.std.specs.FinMap as finmap
@@ -21,20 +21,19 @@ use Rattle.ordered_replicas.specs.Deciding.{all_of}
 use Rattle.source_history.specs.World.{World, content, apply_all, entries_in, rows_of, AreKeysSound, IsSound}
 use Rattle.source_history.specs.World as history
 use Rattle.source_history.specs.Shares.{HoldsShare, of_sources}
-use Rattle.source_history.proofs.Entries.{AreFound, found}
+use Rattle.source_history.proofs.Entries.{found}
 use Rattle.source_history.proofs.Shares.{shares_join}
 use Rattle.world.specs.declared.verdict.Verdict.TheVariants.{Sound}
-use Rattle.world.specs.Audit.{all_entries, does_not_apply, first_contents, found_in_keys, verdict, verdict_of_keys, world_of}
+use Rattle.world.specs.Audit.{all_entries, does_not_apply, found_in_keys, verdict, verdict_of_keys, world_of}
 use Rattle.world.specs.Meaning.{AreJournals}
-use Rattle.world.specs.Search.{or_next}
 use Rattle.world.proofs.Contents.{contents_entry}
 use Rattle.world.proofs.Finding.{none_next}
 use Rattle.world.proofs.Meanings.{keys_not, keys_sound_mean, none_of_sound}
 use Rattle.world.proofs.Saying.{applies_none}
-use Rattle.audit.specs.Contents.{as_pair, in_order}
+use Rattle.audit.specs.Contents.{in_order}
 use Rattle.audit.proofs.Made.{pairs_of}
 use Rattle.source_shares.specs.Merging.{AreMerged, AreShares}
-use Rattle.source_shares.specs.Shares.{AreApplied, AreBelow, IsApplied, is_in_share, of_share, share_in}
+use Rattle.source_shares.specs.Shares.{AreApplied, AreBelow, is_in_share, share_in}
 
 -- ---- lists
 
@@ -50,11 +49,11 @@ keeps_all p (e ∷ es) h = keeps_all_by e (filter p es) es (p e) h.0 (keeps_all 
 -- each is below
 pub share_below : (count : ℕ) (pairs : List (ℕ × ℕ)) → 0 < count → AreBelow count pairs → (source : ℕ) → share_in pairs source < count
 share_below count [] some are source = some
-share_below count ((named, share) ∷ pairs) some are source = by (named == source)
+share_below count ((named, share) ∷ pairs) some are source = by (named == source) are.0 (share_below count pairs some are.1 source)
   where
-    by : (b : Bool) → cond b share (share_in pairs source) < count
-    by true = are.0
-    by false = share_below count pairs some are.1 source
+    by : (b : Bool) → share < count → share_in pairs source < count → cond b share (share_in pairs source) < count
+    by true own later = own
+    by false own later = later
 
 some_by : (o : Option Database) → is_some o ≡ true → (d : Database) × (o ≡ Some d)
 some_by (Some d) h = (d, refl)
@@ -135,7 +134,8 @@ module _ (start : Database) (opened : Gtids) (journals : List JournalValue) (are
         schemas = λ i part at. (applied i (Some part) at).0;
       }
 
-      pub merged : (executed : Gtids) (rows : Database) → executed ≡ all_of opened journals → HoldsShare w end.0 (λ g. true) rows.rows → AreMerged opened start journals executed rows
+      pub merged : (executed : Gtids) (rows : Database) → executed ≡ all_of opened journals → HoldsShare shares.world shares.whole (λ g. true) rows.rows → AreMerged opened start journals executed rows
+      unfolding shares end
       merged executed rows is holds = record {
         sound = sound_verdict world_sound;
         executed_by = is;

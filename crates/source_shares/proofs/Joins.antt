@@ -1,6 +1,8 @@
 -- The rows of one share more, joined to those of the shares after it.
-use Rattle.std.proofs.Common.{◌≡◌, ℕ, zero, suc, ◌<◌, ◌+◌, ◌==◌, Bool, true, false, ◌||◌, inl, inr, List, [], ◌∷◌, ◌++◌, length, Option, Some, refl, sym, ap, ◌∙◌, subst, arith}
-use Rattle.std.specs.Prelude.{slice_get, nat_le}
+use Rattle.std.proofs.Common.{◌≡◌, ℕ, ◌<◌, ◌+◌, ◌==◌, Bool, true, false, ◌||◌, List, [], ◌∷◌, ◌++◌, length, Option, Some, None, refl, sym, ap, ◌∙◌, subst, arith}
+use Rattle.std.specs.Prelude.{slice_get, nat_le, IfSome}
+use Rattle.std.proofs.lemmas.Bool.{le-leb}
+use Rattle.std.proofs.lemmas.Bool.Decides.{nat_tests}
 use Rattle.std.proofs.lemmas.List.{length-append}
 use Rattle.rows.specs.Database.{Database}
 use Rattle.rows.specs.Apply.{Rows}
@@ -12,44 +14,39 @@ use Rattle.source_shares.specs.Merging.{AreJoinedSoFar, AreShares}
 
 -- ---- tests of numbers
 
-next_or_above : (n m : ℕ) → (nat_le (n + 1) m || (m == n)) ≡ nat_le n m
-next_or_above zero zero = refl
-next_or_above zero (suc m) = refl
-next_or_above (suc n) zero = refl
-next_or_above (suc n) (suc m) = next_or_above n m
+pub next_or_above : (n m : ℕ) → (nat_le (n + 1) m || (m == n)) ≡ nat_le n m
+next_or_above n m = grind (arith, nat_tests)
 
-above_not_same : (n m : ℕ) → nat_le (n + 1) m ≡ true → (m == n) ≡ false
-above_not_same zero zero h = cc
-above_not_same zero (suc m) h = refl
-above_not_same (suc n) zero h = cc
-above_not_same (suc n) (suc m) h = above_not_same n m h
+pub above_not_same : (n m : ℕ) → nat_le (n + 1) m ≡ true → (m == n) ≡ false
+above_not_same n m h = grind (arith, nat_tests)
 
-last_is_above : (n m : ℕ) → m < n + 1 → (m == n) ≡ nat_le n m
-last_is_above zero zero h = refl
-last_is_above zero (suc m) h = absurd (omega arith)
-last_is_above (suc n) zero h = refl
-last_is_above (suc n) (suc m) h = last_is_above n m (omega arith)
+pub last_is_above : (n m : ℕ) → m < n + 1 → (m == n) ≡ nat_le n m
+last_is_above n m h = grind (arith, nat_tests)
+
+pub some_weaker : {T : Type 0} (o : Option T) (P Q : T → Type 0) → ((x : T) → P x → Q x) → IfSome o P → IfSome o Q
+some_weaker None P Q f h = h
+some_weaker (Some x) P Q f h = f x h
 
 -- ---- lists
 
-last_at : (left : List (Option Database)) (part : Option Database) → slice_get (left ++ part ∷ []) (length left) ≡ Some part
+pub last_at : (left : List (Option Database)) (part : Option Database) → slice_get (left ++ part ∷ []) (length left) ≡ Some part
 last_at [] part = refl
 last_at (x ∷ left) part = last_at left part
 
 module _ (parts left : List (Option Database)) (part : Option Database) (is : parts ≡ left ++ part ∷ []) where
-  one_more : length parts ≡ length left + 1
+  pub one_more : length parts ≡ length left + 1
   one_more = ap length is ∙ length-append left (part ∷ [])
 
-  at_last : slice_get parts (length left) ≡ Some part
+  pub at_last : slice_get parts (length left) ≡ Some part
   at_last = ap (λ (ps : List (Option Database)). slice_get ps (length left)) is ∙ last_at left part
 
-  before_last : (i : ℕ) (p : Option Database) → slice_get left i ≡ Some p → slice_get parts i ≡ Some p
+  pub before_last : (i : ℕ) (p : Option Database) → slice_get left i ≡ Some p → slice_get parts i ≡ Some p
   before_last i p at = ap (λ (ps : List (Option Database)). slice_get ps i) is ∙ get_append_left left (part ∷ []) i p at
 
 -- ---- the last share
 
 module _ (start : Database) (parts left : List (Option Database)) (part : Database) (is : parts ≡ left ++ Some part ∷ []) where
-  pub begun : AreShares start parts → AreJoinedSoFar start left part
+  unfoldable pub begun : AreShares start parts → AreJoinedSoFar start left part
   begun them = record {
     world = them.world;
     whole = them.whole;
@@ -68,13 +65,13 @@ module _ (start : Database) (parts left : List (Option Database)) (part : Databa
     abbrev n : ℕ
     n = length left
 
-    above : HoldsShare so.world so.whole (of_sources (λ s. nat_le (n + 1) (so.share s))) joined.rows
+    pub above : HoldsShare so.world so.whole (of_sources (λ s. nat_le (n + 1) (so.share s))) joined.rows
     above = subst (λ m. HoldsShare so.world so.whole (of_sources (λ s. nat_le m (so.share s))) joined.rows) (one_more parts left (Some part) is) so.so_far
 
-    own : HoldsShare so.world so.whole (of_sources (λ s. so.share s == n)) part.rows
+    pub own : HoldsShare so.world so.whole (of_sources (λ s. so.share s == n)) part.rows
     own = so.each n part (at_last parts left (Some part) is)
 
-    disjoint : AreDisjoint (λ s. nat_le (n + 1) (so.share s)) (λ s. so.share s == n)
+    pub disjoint : AreDisjoint (λ s. nat_le (n + 1) (so.share s)) (λ s. so.share s == n)
     disjoint s h = above_not_same n (so.share s) h
 
     pub next_apart : ChangedApart start.rows joined.rows part.rows
@@ -84,7 +81,7 @@ module _ (start : Database) (parts left : List (Option Database)) (part : Databa
     pub next_schema : part.schema ≡ joined.schema
     next_schema = so.schemas n part (at_last parts left (Some part) is) ∙ sym so.schema
 
-    pub next : (more : Database) → more.schema ≡ joined.schema → IsJoined start.rows joined.rows part.rows more.rows → AreJoinedSoFar start left more
+    unfoldable pub next : (more : Database) → more.schema ≡ joined.schema → IsJoined start.rows joined.rows part.rows more.rows → AreJoinedSoFar start left more
     next more schema joins = record {
       world = so.world;
       whole = so.whole;
@@ -100,5 +97,7 @@ module _ (start : Database) (parts left : List (Option Database)) (part : Databa
     }
 
 -- all of them
-pub ended : (start joined : Database) (parts : List (Option Database)) → parts ≡ [] → (so : AreJoinedSoFar start parts joined) → HoldsShare so.world so.whole (λ g. true) joined.rows
-ended start joined parts none so = subst (λ (ps : List (Option Database)). HoldsShare so.world so.whole (of_sources (λ s. nat_le (length ps) (so.share s))) joined.rows) none so.so_far
+pub ended : (start joined : Database) (parts : List (Option Database)) → length parts ≡ 0 → (so : AreJoinedSoFar start parts joined) → HoldsShare so.world so.whole (λ g. true) joined.rows
+ended start joined parts none so =
+    let above : (s : ℕ) → nat_le (length parts) (so.share s) ≡ true = λ s. le-leb (length parts) (so.share s) (omega arith) in
+    subst (λ (p : ℕ → Bool). HoldsShare so.world so.whole (of_sources p) joined.rows) (λ i s. above s i) so.so_far
