@@ -164,10 +164,8 @@ impl Row {
     pub fn as_str(&self) -> &str
         ensures { result.now ≡ values_text self.now }
     {
-        match std::str::from_utf8(self.text.as_slice()) {
-            Ok(text) => text,
-            Err(_) => unreachable!(),
-        }
+        // (the type keeps that it is the text of values, and that is UTF-8)
+        unsafe { std::str::from_utf8_unchecked(self.text.as_slice()) }
     }
 
     /// Each value is one that its type has. (For the proofs of callers.)

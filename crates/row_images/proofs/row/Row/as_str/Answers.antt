@@ -6,7 +6,7 @@ use Rattle.row_images.proofs.ImageLaws.{values_fit}
 use Rattle.row_images.proofs.RowLaws.{values_utf8}
 use Rattle.row_images.proofs.row.Row.as_str.Goals as goal
 
-pub unreachable-requires : goal.unreachable-requires
-unreachable-requires c =
+pub from_utf8_unchecked-requires : goal.from_utf8_unchecked-requires
+from_utf8_unchecked-requires c =
     let t = image_bytes c.self.inside.text in
-    c.in-Err.ensures.cases.0 (subst IsUtf8 (c.self.invariant.0 ∙ sym c.as_slice.ensures.value) (values_utf8 (values_in t) (values_fit t)))
+    subst IsUtf8 (c.self.invariant.0 ∙ sym c.as_slice.ensures.value) (values_utf8 (values_in t) (values_fit t))
