@@ -1,5 +1,5 @@
 -- What one pass gathered as a list in the order of GTIDs, and what its application finds.
-use Rattle.std.proofs.Common.{◌≡◌, ℕ, zero, suc, ◌+◌, ◌<◌, Bool, true, false, cond, inl, inr, List, [], ◌∷◌, ◌++◌, length, map, get_or, Option, Some, None, refl, sym, ap, ◌∙◌, subst, arith}
+use Rattle.std.proofs.Common.{◌≡◌, ℕ, zero, suc, Bool, true, false, cond, inl, inr, List, [], ◌∷◌, map, Option, Some, refl, sym, ap, ◌∙◌, subst, arith}
 use Rattle.std.specs.Prelude.{slice_get}
 use Rattle.std.specs.Option.{option_map, unwrap_or}
 use Rattle.std.specs.List.{Contains, list_all}
@@ -14,7 +14,7 @@ use Rattle.std.proofs.lemmas.List.Elements.{Contains-append_cases, Contains-appe
 use Rattle.std.proofs.lemmas.List.Sorted.{Contains-permutation, IsPermutation-sym}
 use Rattle.std.proofs.lemmas.Option.{get_or_from_slice_get, same_Some, slice_get_within, slice_get-get_or}
 use Rattle.gtid_text.specs.declared.Gtid.{Gtid}
-use Rattle.gtid_text.specs.Gtids.{gtid_cmp, same_gtid}
+use Rattle.gtid_text.specs.Gtids.{gtid_cmp}
 use Rattle.gtid_text.proofs.SameGtid.{gtid_total, gtid_exact, same_is_equal, same_itself}
 use Rattle.gtid_set.specs.Sets.{Gtids}
 use Rattle.gtid_set.proofs.SetLemmas.{gtid_tied}
@@ -70,7 +70,7 @@ in_either : (rs ss : List Run) (e : Entry) → IsPermutation rs ss → Contains 
 in_either rs ss e moved h = let r = in_run rs e h in of_run ss r.0 e (Contains-permutation rs ss r.0 moved r.1) r.2
 
 -- the runs list what came first, whatever their order
-pub runs_list : (m : Contents) (rs ss : List Run) → AreRuns m rs → IsPermutation rs ss → AreListed m (entries_of ss)
+runs_list : (m : Contents) (rs ss : List Run) → AreRuns m rs → IsPermutation rs ss → AreListed m (entries_of ss)
 runs_list m rs ss are moved = record {
   only = λ e h.
       let r = in_run rs e (in_either ss rs e (IsPermutation-sym rs ss moved) h) in
