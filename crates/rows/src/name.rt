@@ -5,7 +5,7 @@ ghost use Rattle.std.specs.String.{string_bytes};
 ghost use Rattle.std.specs.List.{list_all};
 ghost use Rattle.rows.specs.Names.{has_name_length, is_name_byte, begins_with_digit, is_name};
 
-use std::alloc::AllocError;
+use std::alloc::{AllocError, Global};
 use std::cmp::Ordering;
 use std::hash::{Hash, Hasher};
 use std::marker::Model;
@@ -122,6 +122,15 @@ impl Name {
             Ok(text) => Ok(Name { text }),
             Err(_) => Err(NameFault::Memory),
         }
+    }
+
+    /// The same name, in memory of its own.
+    pub(crate) fn renewed(&self, alloc: Global) -> Result<Name, AllocError>
+        ensures { IfOk result (λ name. name ≡ self.now) }
+    {
+        let text = String::from_str(alloc, self.text.as_str())?;
+        let text = ArcStr::from_string(text)?;
+        Ok(Name { text })
     }
 
     /// The text of this name.

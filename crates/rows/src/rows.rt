@@ -147,6 +147,16 @@ impl Rows {
         Ok(Rows { schema, carriers })
     }
 
+    /// The same rows, whose values both share, in tables whose names are in memory of their own. Where two threads change rows, each a copy,
+    /// the counts of owners of names that they shared would be written by both.
+    pub fn copy_apart(&self, alloc: Global) -> Result<Rows, AllocError>
+        ensures { IfOk result (λ copy. copy ≡ self.now) }
+    {
+        let schema = self.schema.renewed(alloc)?;
+        let carriers = self.carriers.copy()?;
+        Ok(Rows { schema, carriers })
+    }
+
     /// Whether both have the same schema and the same rows.
     pub fn is_equal(&self, other: &Rows) -> bool
         ensures { Decides result (self.now ≡ other.now) }

@@ -73,7 +73,7 @@ pub(crate) fn apply_share(
     requires { AllFit opening.now.schema (map (λ e. e.now) entries.now) }
     ensures { IsApplied opening.now shares.now (map (λ e. e.now) entries.now) share result }
 {
-    let Ok(mut rows) = opening.copy() else {
+    let Ok(mut rows) = opening.copy_apart(alloc) else {
         return None;
     };
     if !apply_each(alloc, &mut rows, entries, shares, share) {
