@@ -11,3 +11,4 @@ pub mod OtherGaps
 pub mod OtherRefusals
 pub mod Marks
 pub mod Gathering
+pub mod Firsts

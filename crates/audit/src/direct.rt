@@ -7,11 +7,12 @@ ghost use Rattle.world.specs.declared.verdict.Verdict.TheVariants.{Sound};
 ghost use Rattle.world.specs.Audit.{all_entries, first_contents, verdict, verdict_of_keys, world_of};
 ghost use Rattle.audit.specs.Contents.{in_order};
 ghost use Rattle.audit.specs.Faults.{IsAuditFault};
+ghost use Rattle.audit.specs.Firsts.{AreFirsts};
 ghost use Rattle.audit.specs.Ordered.{AreInOrder};
 ghost use Rattle.audit.specs.Worlds.{AllFit};
 
 use crate::finding::{audit, audit_keys, keep_rules};
-use crate::gathering::{agree_apart, list_apart};
+use crate::gathering::{agree_apart, list_apart, list_equal};
 use crate::listed::{are_ascending, verdict_applied};
 use crate::ordered::are_in_order;
 use crate::sources::world_of_fitting;
@@ -96,24 +97,23 @@ pub fn audit_keys_of(
     audit_keys_with_world(alloc, opened, rows, journals)
 }
 
-/// Whether one pass over journals finds their keys to be sound. Where it does, the first entry of each GTID beyond the opening set is put
-/// into a list that is empty, in the order of GTIDs: all that their world has.
-pub fn list_sound<'a>(
+/// Whether journals begin within the opening set, are in order and agree with one another. Where they do, the first entry of each GTID
+/// beyond the opening set is put into a list that is empty, in the order of GTIDs: all that their world has. Their keys are sound then,
+/// unless two sources touch one (`share_no_key`).
+pub fn list_firsts<'a>(
     alloc: Global,
     list: &mut Vec<&'a Entry>,
     opened: &GtidSet,
-    schema: &Schema,
     journals: &'a [Journal],
 ) -> Result<bool, AllocError>
     requires { list.old.items ≡ [] }
-    ensures sound { IfOk result (λ yes. yes ≡ true → (rows : apply.Rows) → verdict_of_keys (world_of schema.now opened.now rows journals.now) journals.now ≡ Sound) }
-    ensures listed { IfOk result (λ yes. yes ≡ true → map (λ e. e.now) list.new.items ≡ in_order (first_contents opened.now (all_entries journals.now))) }
+    ensures { IfOk result (λ yes. yes ≡ true → AreFirsts opened.now journals.now (map (λ e. e.now) list.new.items)) }
 {
     keep_rules(journals);
     if !begin_in_order(alloc, opened, journals)? {
         return Ok(false);
     }
-    if !list_apart(alloc, list, opened, schema, journals)? {
+    if !list_equal(alloc, list, opened, journals)? {
         return Ok(false);
     }
     let ascending = are_ascending(list);

@@ -201,6 +201,17 @@ pub(crate) fn usual_keys(entries: &[Entry]) -> usize {
     count.saturating_mul(2)
 }
 
+/// The same of entries that are lent.
+pub(crate) fn usual_keys_of(entries: &[&Entry]) -> usize {
+    let mut count: usize = 63;
+    for place in 0..64 {
+        if let Some(entry) = entries.get(place) {
+            count = count.saturating_add(entry.txn.changes.as_slice().len());
+        }
+    }
+    entries.len().saturating_mul(count / 64).saturating_mul(2)
+}
+
 /// About how many keys journals touch. (A guess.)
 fn usual_keys_of_all(journals: &[Journal]) -> usize {
     let mut count: usize = 0;
@@ -379,4 +390,22 @@ pub(crate) fn list_apart<'a>(
     let owners = Owners::for_marks(alloc, usual_keys_of_all(journals))?;
     let mut state = begin(alloc, owners);
     gather_list(alloc, &mut state, list, opened, schema, journals)
+}
+
+/// The first entry of each GTID beyond the opening set is put into a list that is empty, unless two transactions of journals under one
+/// GTID differ: sources are ascending in it, and the numbers of each are too. No key is looked at.
+pub(crate) fn list_equal<'a>(
+    alloc: Global,
+    list: &mut Vec<&'a Entry>,
+    opened: &GtidSet,
+    journals: &'a [Journal],
+) -> Result<bool, AllocError>
+    requires { list.old.items ≡ [] }
+    ensures agree { IfOk result (λ yes. yes ≡ true → AgreeApart opened.now [] journals.now) }
+    ensures listed { IfOk result (λ yes. yes ≡ true → AreListed (first_contents opened.now (all_entries journals.now)) (map (λ e. e.now) list.new.items)) }
+{
+    let owners = Owners::for_marks(alloc, 0)?;
+    let mut state = begin(alloc, owners);
+    let tables = Schema::empty(alloc);
+    gather_list(alloc, &mut state, list, opened, &tables, journals)
 }

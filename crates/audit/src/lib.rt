@@ -60,8 +60,9 @@ mod standing;
 mod touches;
 mod unequal;
 
-pub use direct::{audit_keys_of, audit_of, list_sound};
+pub use direct::{audit_keys_of, audit_of, list_firsts};
 pub use finding::{audit, audit_gtids, audit_keys, keep_rules};
 pub use laws::faults_are_all;
 pub use listing::{AllFaults, audit_all};
+pub use shared::share_no_key;
 pub use sources::{World, WorldFault, world_of, world_of_fitting};

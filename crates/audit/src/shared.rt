@@ -5,7 +5,7 @@ ghost use Rattle.world.specs.Audit.{shared};
 ghost use Rattle.world.specs.Folds.{shared_from};
 ghost use Rattle.audit.specs.Contents.{as_pair};
 
-use crate::gathering::usual_keys;
+use crate::gathering::{usual_keys, usual_keys_of};
 use crate::marks::push_marks;
 use crate::owners::Owners;
 use crate::sources::World;
@@ -42,6 +42,26 @@ fn are_apart(alloc: Global, schema: &Schema, entries: &[Entry]) -> Result<bool, 
 {
     let mut owners = Owners::for_marks(alloc, usual_keys(entries))?;
     // (one list for the marks of each transaction)
+    let mut marks = Vec::new(alloc);
+    for entry in entries {
+        marks.clear();
+        push_marks(&mut marks, schema, &entry.txn)?;
+        if !owners.touch_all(&marks, entry.gtid.source)? {
+            return Ok(false);
+        }
+    }
+    Ok(true)
+}
+
+/// What `are_apart` finds, of entries that are lent: where it is true, no two sources touch a key.
+pub fn share_no_key(
+    alloc: Global,
+    schema: &Schema,
+    entries: &[&Entry],
+) -> Result<bool, AllocError>
+    ensures { IfOk result (λ yes. yes ≡ true → shared_from schema.now finmap.empty (map as_pair (map (λ e. e.now) entries.now)) ≡ None) }
+{
+    let mut owners = Owners::for_marks(alloc, usual_keys_of(entries))?;
     let mut marks = Vec::new(alloc);
     for entry in entries {
         marks.clear();

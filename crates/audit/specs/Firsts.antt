@@ -1,0 +1,16 @@
+-- What journals bring first, as a list.
+use Rattle.std.specs.Prelude.{◌≡◌, List, None}
+use Rattle.gtid_set.specs.Sets.{Gtids}
+use Rattle.rows.specs.Apply.{Rows}
+use Rattle.rows.specs.declared.schema.Table.{Table}
+use Rattle.journal.specs.declared.Entry.{Entry}
+use Rattle.journal.specs.Journals.{JournalValue}
+use Rattle.world.specs.declared.verdict.Verdict.TheVariants.{Sound}
+use Rattle.world.specs.Audit.{all_entries, first_contents, shared, verdict_of_keys, world_of}
+use Rattle.audit.specs.Contents.{in_order}
+
+-- These are all that the world of journals has, in the order of GTIDs; and the journals' keys are sound, whatever the tables, unless two
+-- sources touch one.
+pub record AreFirsts (opened : Gtids) (journals : List JournalValue) (es : List Entry) : Type 0 where
+  pub listed : es ≡ in_order (first_contents opened (all_entries journals))
+  pub sound : (schema : List Table) (rows : Rows) → shared (world_of schema opened rows journals) ≡ None → verdict_of_keys (world_of schema opened rows journals) journals ≡ Sound
