@@ -1,5 +1,5 @@
 -- The rows of shares, joined, are those of all journals together.
-use Rattle.std.proofs.Common.{◌≡◌, ℕ, zero, suc, ◌<◌, ◌==◌, Bool, true, false, cond, inl, inr, List, [], ◌∷◌, length, Option, Some, None, Ok, refl, sym, ap, ◌∙◌, arith}
+use Rattle.std.proofs.Common.{map, ◌≡◌, ℕ, zero, suc, ◌<◌, ◌==◌, Bool, true, false, cond, inl, inr, List, [], ◌∷◌, length, Option, Some, None, Ok, refl, sym, ap, ◌∙◌, arith}
 use Rattle.std.specs.Prelude.{slice_get, is_some}
 use Rattle.std.specs.List.{filter, list_all, AllByRecursion}
 use Rattle.std.specs.Option.{unwrap_or}
@@ -25,12 +25,15 @@ use Rattle.source_history.proofs.Entries.{found}
 use Rattle.source_history.proofs.Shares.{shares_join}
 use Rattle.world.specs.declared.verdict.Verdict.TheVariants.{Sound}
 use Rattle.world.specs.Audit.{all_entries, does_not_apply, found_in_keys, verdict, verdict_of_keys, world_of}
+use Rattle.world.specs.Folds.{shared_from}
 use Rattle.world.specs.Meaning.{AreJournals}
 use Rattle.world.proofs.Contents.{contents_entry}
 use Rattle.world.proofs.Finding.{none_next}
 use Rattle.world.proofs.Meanings.{keys_not, keys_sound_mean, none_of_sound}
 use Rattle.world.proofs.Saying.{applies_none}
-use Rattle.audit.specs.Contents.{in_order}
+use Rattle.world.proofs.Touching.{one_pass_shares}
+use Rattle.audit.specs.Contents.{as_pair, in_order}
+use Rattle.audit.specs.Firsts.{AreFirsts}
 use Rattle.audit.proofs.Made.{pairs_of}
 use Rattle.source_shares.specs.Merging.{AreMerged, AreShares}
 use Rattle.source_shares.specs.Shares.{AreApplied, AreBelow, is_in_share, share_in}
@@ -80,6 +83,11 @@ recorded_in opened (j ∷ js) g h =
 module _ (start : Database) (opened : Gtids) (journals : List JournalValue) (are : AreJournals journals) where
   abbrev w : World
   w = world_of start.schema opened start.rows journals
+
+  -- where no two sources touch a key, the keys are sound
+  pub said_by : (list : List Entry) → AreFirsts opened journals list → shared_from start.schema finmap.empty (map as_pair list) ≡ None → verdict_of_keys w journals ≡ Sound
+  said_by list firsts none =
+      firsts.sound start.schema start.rows (one_pass_shares w ∙ (ap (shared_from start.schema finmap.empty) (sym (pairs_of list w.contents firsts.listed)) ∙ none))
 
   module _ (said : verdict_of_keys w journals ≡ Sound) where
     keys : AreKeysSound w

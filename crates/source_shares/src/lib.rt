@@ -4,8 +4,9 @@
 //! all journals together, and the rows are those that it denotes (`AreMerged`): what a replica holds that has executed all of them. Where
 //! it gives nothing, nothing is said: memory was refused, or the journals are not of the kind that one pass of the audit can take.
 //!
-//! How it goes: one pass lists the first entry of each GTID (`audit::list_sound`), the sources are put into as many shares as there are
-//! threads, and each thread applies one share to a copy of the opening rows. Since sources share no key, the shares change different
+//! How it goes: one pass lists the first entry of each GTID (`audit::list_firsts`), the sources are put into as many shares as there are
+//! threads, and each thread applies one share to a copy of the opening rows, while one looks for a key of two sources
+//! (`audit::share_no_key`). Since sources share no key, the shares change different
 //! keys, so that their rows can be joined (`Rows::joined`); that the joined rows are those of all is a law of `source_history`
 //! (`shares_join`). A thread that can't be started leaves its share to the caller's.
 //!

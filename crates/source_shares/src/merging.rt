@@ -1,7 +1,9 @@
 //! Journals merged by several threads.
-ghost use Rattle.std.specs.Prelude.{◌≡◌, ◌<◌, [], IfOk, IfSome, length, map};
+ghost use Rattle.std.specs.Prelude.{◌≡◌, ◌<◌, [], IfOk, IfSome, None, length, map};
+ghost use Rattle.std.specs.FinMap as finmap;
 ghost use Rattle.world.specs.Audit.{all_entries, first_contents};
-ghost use Rattle.audit.specs.Contents.{in_order};
+ghost use Rattle.world.specs.Folds.{shared_from};
+ghost use Rattle.audit.specs.Contents.{as_pair, in_order};
 ghost use Rattle.audit.specs.Worlds.{AllFit};
 ghost use Rattle.source_shares.specs.Merging.{AreMerged};
 ghost use Rattle.source_shares.specs.Shares.{AreApplied, IsApplied};
@@ -10,7 +12,7 @@ use crate::applying::apply_share;
 use crate::executing::union_of;
 use crate::joining::{are_all_there, join_all};
 use crate::sharing::{count_changes, put_into_shares};
-use audit::{keep_rules, list_sound};
+use audit::{keep_rules, list_firsts, share_no_key};
 use gtid_set::GtidSet;
 use gtid_text::SourceId;
 use journal::{Entry, Journal};
@@ -50,7 +52,37 @@ fn apply_shares<R: Threads + Sync>(
     )
 }
 
-/// What `merge_by_shares` gives, where one pass over the journals lists what they bring: the list is empty at first.
+/// The rows of each share, where no two sources touch a key: both are found at the same time.
+fn apply_apart<R: Threads + Sync>(
+    rt: &R,
+    alloc: Global,
+    opening: &Rows,
+    entries: &[&Entry],
+    shares: &[(SourceId, usize)],
+    count: usize,
+) -> Option<Vec<Option<Rows>>>
+    requires { AllFit opening.now.schema (map (λ e. e.now) entries.now) }
+    ensures count { IfSome result (λ parts. length parts.items ≡ count) }
+    ensures applied { IfSome result (λ parts. AreApplied opening.now shares.now (map (λ e. e.now) entries.now) parts.items) }
+    ensures apart { IfSome result (λ parts. shared_from opening.now.schema finmap.empty (map as_pair (map (λ e. e.now) entries.now)) ≡ None) }
+{
+    let (apart, parts) = thread::join(
+        rt,
+        || share_no_key(alloc, opening.schema(), entries),
+        ||
+            requires { AllFit opening.now.schema (map (λ e. e.now) entries.now) }
+        { apply_shares(rt, alloc, opening, entries, shares, count) },
+    );
+    let Ok(true) = apart else {
+        return None;
+    };
+    match parts {
+        Ok(parts) => Some(parts),
+        Err(_) => None,
+    }
+}
+
+/// What `merge_by_shares` gives, where a pass over the journals lists what they bring: the list is empty at first.
 fn merge_listed<'a, R: Threads + Sync>(
     rt: &R,
     alloc: Global,
@@ -66,7 +98,7 @@ fn merge_listed<'a, R: Threads + Sync>(
     ensures { IfSome result (λ merged. AreMerged opened.now rows.now journals.now merged.executed merged.rows) }
 {
     keep_rules(journals);
-    let Ok(true) = list_sound(alloc, list, opened, rows.schema(), journals) else {
+    let Ok(true) = list_firsts(alloc, list, opened, journals) else {
         return None;
     };
     let Ok(mut counts) = count_changes(alloc, list) else {
@@ -76,9 +108,7 @@ fn merge_listed<'a, R: Threads + Sync>(
     let Ok(shares) = put_into_shares(alloc, &mut counts, count) else {
         return None;
     };
-    let Ok(parts) = apply_shares(rt, alloc, rows, list, &shares, count) else {
-        return None;
-    };
+    let parts = apply_apart(rt, alloc, rows, list, &shares, count)?;
     if !are_all_there(&parts) {
         return None;
     }
