@@ -1,12 +1,13 @@
 ghost use Rattle.std.specs.Prelude.{◌≡◌, ◌++◌, IfOk, OnOk, flat_map, string_bytes};
 ghost use Rattle.gtid_text.specs.Canonical.{spans_text};
 ghost use Rattle.txn_journal.specs.WrittenSets.{spans_word, set_text};
+ghost use Rattle.rows.specs.Listing.{all_shown, rows_of};
 ghost use Rattle.gtid_report.specs.State.{values_text, row_line, executed_line, state_text};
 
 use gtid_set::GtidSet;
 use gtid_text::{Span, write_next_span};
 use row_images::write_value;
-use rows::{Row, Rows, TableRow, Value};
+use rows::{Key, Name, Row, Rows, TableRow, Value};
 use std::alloc::{AllocError, Global};
 
 /// The words of values, each after a blank.
@@ -36,20 +37,21 @@ fn push_image(out: &mut String, row: &Row) -> Result<(), AllocError>
     out.push_str(row.as_str())
 }
 
-fn push_row(out: &mut String, row: &TableRow) -> Result<(), AllocError>
-    ensures { OnOk result (string_bytes out.new ≡ string_bytes out.old ++ row_line row.now) }
+fn push_row(out: &mut String, table: &Name, row: &Row) -> Result<(), AllocError>
+    ensures { OnOk result (string_bytes out.new ≡ string_bytes out.old ++ row_line (record { table = table.now; row = row.now })) }
 {
     out.push_str("row ")?;
-    out.push_str(row.table.as_str())?;
-    push_image(out, &row.row)?;
+    out.push_str(table.as_str())?;
+    push_image(out, row)?;
     out.push_str("\n")
 }
 
-fn push_rows(out: &mut String, rows: &[TableRow]) -> Result<(), AllocError>
-    ensures { OnOk result (string_bytes out.new ≡ string_bytes out.old ++ flat_map row_line rows.now) }
+/// The line of each row that is lent, in the order of the list.
+fn push_rows(out: &mut String, list: &[(&Key, &Row)]) -> Result<(), AllocError>
+    ensures { OnOk result (string_bytes out.new ≡ string_bytes out.old ++ flat_map row_line (rows_of (all_shown list.now))) }
 {
-    for row in rows {
-        push_row(out, row)?;
+    for (key, row) in list {
+        push_row(out, &key.table, row)?;
     }
     Ok(())
 }
@@ -58,7 +60,10 @@ fn push_rows(out: &mut String, rows: &[TableRow]) -> Result<(), AllocError>
 pub fn render_rows(out: &mut String, rows: &[TableRow]) -> Result<(), AllocError>
     ensures { OnOk result (string_bytes out.new ≡ string_bytes out.old ++ flat_map row_line rows.now) }
 {
-    push_rows(out, rows)
+    for row in rows {
+        push_row(out, &row.table, &row.row)?;
+    }
+    Ok(())
 }
 
 /// Intervals, each after the one before.
@@ -106,7 +111,7 @@ pub fn render_state(alloc: Global, executed: &GtidSet, rows: &Rows) -> Result<St
     ensures { IfOk result (λ text. string_bytes text ≡ state_text executed.now rows.now.rows) }
 {
     let mut text = executed_line(alloc, executed)?;
-    let list = rows.list_sorted(alloc)?;
+    let list = rows.list_lent(alloc)?;
     push_rows(&mut text, &list)?;
     Ok(text)
 }

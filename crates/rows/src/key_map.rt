@@ -7,7 +7,7 @@ ghost use Rattle.rows.specs.Apply.{first_taken, first_row, with_row, without_key
 ghost use Rattle.rows.specs.declared.change.Change.TheVariants.{Update};
 ghost use Rattle.rows.specs.Joining.{IsJoined};
 ghost use Rattle.rows.specs.Keys.{carried_keys};
-ghost use Rattle.rows.specs.Listing.{rows_listed};
+ghost use Rattle.rows.specs.Listing.{all_shown, rows_of, rows_listed};
 ghost use Rattle.rows.specs.Making.{IsPut, update_row};
 ghost use Rattle.rows.specs.Patch.{put_over};
 ghost use Rattle.rows.specs.Refusal.{Refuses};
@@ -16,7 +16,7 @@ use crate::change::{Change, Key, PrepareFault, RowFault, TableRow};
 use crate::in_place::make_all_in_place;
 use crate::joining::join;
 use crate::keys::{carried_keys, keeps_keys};
-use crate::listing::list_primary;
+use crate::listing::{list_primary, sort_primary};
 use crate::making::Making;
 use crate::name::Name;
 use crate::placing::put_if_free;
@@ -76,6 +76,13 @@ impl KeyMap {
         ensures { IfOk result (λ list. list.items ≡ rows_listed self.now) }
     {
         list_primary(alloc, &self.carriers)
+    }
+
+    /// The same rows in the same order, lent.
+    pub(crate) fn lent_primary(&self, alloc: Global) -> Result<Vec<(&Key, &Row)>, AllocError>
+        ensures { IfOk result (λ list. rows_of (all_shown list.items) ≡ rows_listed self.now) }
+    {
+        sort_primary(alloc, &self.carriers)
     }
 
     /// The row that carries a key.

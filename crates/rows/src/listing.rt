@@ -97,6 +97,20 @@ fn to_table_rows(alloc: Global, list: &[(&Key, &Row)]) -> Result<Vec<TableRow>, 
     Ok(rows)
 }
 
+/// The rows under primary keys, lent, by table name, and then by the values of the key.
+pub(crate) fn sort_primary<'a>(
+    alloc: Global,
+    carriers: &'a IndexMap<Key, Row>,
+) -> Result<Vec<(&'a Key, &'a Row)>, AllocError>
+    ensures { IfOk result (λ list. rows_of (all_shown list.items) ≡ rows_listed (map.from_entries carriers.now.entries)) }
+{
+    // `len` is called for its clause that no key occurs twice, which the proof cites.
+    let _len = carriers.len();
+    let mut list = primaries(alloc, carriers)?;
+    sort_by_keys(&mut list)?;
+    Ok(list)
+}
+
 /// The rows under primary keys, by table name, and then by the values of the key.
 pub(crate) fn list_primary(
     alloc: Global,
@@ -104,9 +118,6 @@ pub(crate) fn list_primary(
 ) -> Result<Vec<TableRow>, AllocError>
     ensures { IfOk result (λ list. list.items ≡ rows_listed (map.from_entries carriers.now.entries)) }
 {
-    // `len` is called for its clause that no key occurs twice, which the proof cites.
-    let _len = carriers.len();
-    let mut list = primaries(alloc, carriers)?;
-    sort_by_keys(&mut list)?;
+    let list = sort_primary(alloc, carriers)?;
     to_table_rows(alloc, &list)
 }

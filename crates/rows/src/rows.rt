@@ -7,7 +7,7 @@ ghost use Rattle.std.specs.FinMap as map;
 ghost use Rattle.rows.specs.Apply.{apply};
 ghost use Rattle.rows.specs.Fits.{misfit, Fits};
 ghost use Rattle.rows.specs.Joining.{ChangedApart, IsJoined};
-ghost use Rattle.rows.specs.Listing.{rows_listed};
+ghost use Rattle.rows.specs.Listing.{all_shown, rows_of, rows_listed};
 ghost use Rattle.rows.specs.Patch.{seen_of_keys};
 ghost use Rattle.rows.specs.Prepared.{IsStillTrue};
 ghost use Rattle.rows.specs.Database.{opening, AreRowsOf, LeavesImages, NoTwoCarry};
@@ -117,6 +117,13 @@ impl Rows {
         ensures { IfOk result (λ list. list.items ≡ rows_listed self.now.rows) }
     {
         self.carriers.list_primary(alloc)
+    }
+
+    /// The same rows in the same order, each lent with its primary key, which names its table.
+    pub fn list_lent(&self, alloc: Global) -> Result<Vec<(&Key, &Row)>, AllocError>
+        ensures { IfOk result (λ list. rows_of (all_shown list.items) ≡ rows_listed self.now.rows) }
+    {
+        self.carriers.lent_primary(alloc)
     }
 
     /// The same rows, whose values both share.

@@ -1,6 +1,6 @@
 use Rattle.std.proofs.Common.{rules}
 use Rattle.rows.proofs.Ordered.{in_order}
-use Rattle.rows.proofs.listing.list_primary.Goals as goal
+use Rattle.rows.proofs.listing.sort_primary.Goals as goal
 
 pub returns : goal.returns
 returns c =
