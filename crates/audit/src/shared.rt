@@ -54,11 +54,7 @@ fn are_apart(alloc: Global, schema: &Schema, entries: &[Entry]) -> Result<bool, 
 }
 
 /// What `are_apart` finds, of entries that are lent: where it is true, no two sources touch a key.
-pub fn share_no_key(
-    alloc: Global,
-    schema: &Schema,
-    entries: &[&Entry],
-) -> Result<bool, AllocError>
+pub fn share_no_key(alloc: Global, schema: &Schema, entries: &[&Entry]) -> Result<bool, AllocError>
     ensures { IfOk result (λ yes. yes ≡ true → shared_from schema.now finmap.empty (map as_pair (map (λ e. e.now) entries.now)) ≡ None) }
 {
     let mut owners = Owners::for_marks(alloc, usual_keys_of(entries))?;

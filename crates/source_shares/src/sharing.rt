@@ -29,7 +29,10 @@ fn is_last(entries: &[&Entry], place: usize, source: SourceId) -> bool {
 }
 
 /// How many changes each source has, where its entries follow one another. (A guess.)
-pub(crate) fn count_changes(alloc: Global, entries: &[&Entry]) -> Result<Vec<(SourceId, usize)>, AllocError> {
+pub(crate) fn count_changes(
+    alloc: Global,
+    entries: &[&Entry],
+) -> Result<Vec<(SourceId, usize)>, AllocError> {
     let mut counts = Vec::new(alloc);
     let mut count: usize = 0;
     for (place, entry) in entries.iter().enumerate() {

@@ -30,7 +30,7 @@ loop-entry-preserved c =
     let are = c.loop-entry.invariant.2 in (
       touch_last entry.gtid keys last,
       apart_more c.args.schema.now (map as_pair (map (λ (x : Bor Entry). x.now) all)) (map as_pair (map (λ (x : Bor Entry). x.now) (drop (at + 1) all))) (as_pair entry) last
-      (subst (λ (xs : List (Bor Entry)). IsApart c.args.schema.now (map as_pair (map (λ (x : Bor Entry). x.now) all)) (map as_pair (map (λ (x : Bor Entry). x.now) xs)) last) left c.loop-entry.invariant.1)
-      (own_keys_of entry.gtid keys last old new are touched),
+          (subst (λ (xs : List (Bor Entry)). IsApart c.args.schema.now (map as_pair (map (λ (x : Bor Entry). x.now) all)) (map as_pair (map (λ (x : Bor Entry). x.now) xs)) last) left c.loop-entry.invariant.1)
+          (own_keys_of entry.gtid keys last old new are touched),
       marked_next entry.gtid keys last old new are touched,
     )
