@@ -64,6 +64,11 @@ impl KeyMap {
         Ok(KeyMap { carriers })
     }
 
+    /// How many keys there are.
+    pub(crate) fn count(&self) -> usize {
+        self.carriers.len()
+    }
+
     /// Whether both have the same row under each key.
     pub(crate) fn is_equal(&self, other: &KeyMap) -> bool
         ensures { Decides result (self.now ≡ other.now) }

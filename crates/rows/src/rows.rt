@@ -164,6 +164,11 @@ impl Rows {
         Ok(Rows { schema, carriers })
     }
 
+    /// How many keys the rows have: how long a copy of them takes. (For guesses: no clause says more.)
+    pub fn count_keys(&self) -> usize {
+        self.carriers.count()
+    }
+
     /// Whether both have the same schema and the same rows.
     pub fn is_equal(&self, other: &Rows) -> bool
         ensures { Decides result (self.now ≡ other.now) }

@@ -2,7 +2,8 @@
 //!
 //! What a contract sees: where `merge_by_shares` gives something, the verdict of the audit on the journals is Sound, the set is that of
 //! all journals together, and the rows are those that it denotes (`AreMerged`): what a replica holds that has executed all of them. Where
-//! it gives nothing, nothing is said: memory was refused, or the journals are not of the kind that one pass of the audit can take.
+//! it gives nothing, nothing is said: memory was refused, or the journals are not of the kind that one pass of the audit can take, or have
+//! so few changes that copies of the opening rows would not pay.
 //!
 //! How it goes: one pass lists the first entry of each GTID (`audit::list_firsts`), the sources are put into as many shares as there are
 //! threads, and each thread applies one share to a copy of the opening rows, while one looks for a key of two sources

@@ -82,6 +82,15 @@ fn apply_apart<R: Threads + Sync>(
     }
 }
 
+/// Whether there is so much to apply that copies of the opening rows pay. (A guess.)
+fn is_worth_copies(rows: &Rows, counts: &[(SourceId, usize)]) -> bool {
+    let mut changes: usize = 0;
+    for it in counts {
+        changes = changes.saturating_add(it.1);
+    }
+    changes / 4 >= rows.count_keys()
+}
+
 /// What `merge_by_shares` gives, where a pass over the journals lists what they bring: the list is empty at first.
 fn merge_listed<'a, R: Threads + Sync>(
     rt: &R,
@@ -104,6 +113,9 @@ fn merge_listed<'a, R: Threads + Sync>(
     let Ok(mut counts) = count_changes(alloc, list) else {
         return None;
     };
+    if !is_worth_copies(rows, &counts) {
+        return None;
+    }
     let count = counts.len().clamp(1, most);
     let Ok(shares) = put_into_shares(alloc, &mut counts, count) else {
         return None;
