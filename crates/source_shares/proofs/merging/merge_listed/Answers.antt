@@ -16,7 +16,7 @@ join_all-requires g c =
     let are = c.keep_rules.ensures in
     let list = map (λ (x : Bor Entry). x.now) c.list_firsts.new.list.items in
     let firsts = c.in-Ok-true.ensures c.in-Ok-true.field-0-test in
-    let lent : c.deref-2.result.now ≡ c.list_firsts.new.list.items = c.deref-2.ensures.value in
+    let lent : c.deref-3.result.now ≡ c.list_firsts.new.list.items = c.deref-3.ensures.value in
     let said = said_by start opened journals are list firsts
     (subst (λ (es : List (Bor Entry)). shared_from start.schema finmap.empty (map as_pair (map (λ (x : Bor Entry). x.now) es)) ≡ None) lent c.in_ok-parts.ensures.apart) in
     let parts = c.in_ok-parts.parts.items in
@@ -25,8 +25,8 @@ join_all-requires g c =
     let some : 0 < length parts = subst (λ n. 0 < n) (sym count) (omega arith) in
     let below = subst (λ n. AreBelow n pairs) (sym count) c.in-Ok-put_into_shares.ensures in
     let applied = subst (λ (es : List (Bor Entry)). AreApplied start pairs (map (λ (x : Bor Entry). x.now) es) parts) lent
-    (subst (λ (ps : List (ℕ × ℕ)). AreApplied start ps (map (λ (x : Bor Entry). x.now) c.deref-2.result.now) parts) c.deref-3.ensures.value c.in_ok-parts.ensures.applied) in
-    let all = ap (list_all is_some) (sym c.deref-4.ensures.value) ∙ sym c.are_all_there.ensures ∙ c.if-not-are_all_there.false in
+    (subst (λ (ps : List (ℕ × ℕ)). AreApplied start ps (map (λ (x : Bor Entry). x.now) c.deref-3.result.now) parts) c.deref-4.ensures.value c.in_ok-parts.ensures.applied) in
+    let all = ap (list_all is_some) (sym c.deref-5.ensures.value) ∙ sym c.are_all_there.ensures ∙ c.if-not-are_all_there.false in
     shares start opened journals are said list firsts.listed pairs parts some below applied all
 
 pub returns : goal.returns
@@ -37,7 +37,7 @@ returns g c =
     let are = c.keep_rules.ensures in
     let list = map (λ (x : Bor Entry). x.now) c.list_firsts.new.list.items in
     let firsts = c.in-Ok-true.ensures c.in-Ok-true.field-0-test in
-    let lent : c.deref-2.result.now ≡ c.list_firsts.new.list.items = c.deref-2.ensures.value in
+    let lent : c.deref-3.result.now ≡ c.list_firsts.new.list.items = c.deref-3.ensures.value in
     let said = said_by start opened journals are list firsts
     (subst (λ (es : List (Bor Entry)). shared_from start.schema finmap.empty (map as_pair (map (λ (x : Bor Entry). x.now) es)) ≡ None) lent c.in_ok-parts.ensures.apart) in
     let parts = c.in_ok-parts.parts.items in
@@ -46,7 +46,7 @@ returns g c =
     let some : 0 < length parts = subst (λ n. 0 < n) (sym count) (omega arith) in
     let below = subst (λ n. AreBelow n pairs) (sym count) c.in-Ok-put_into_shares.ensures in
     let applied = subst (λ (es : List (Bor Entry)). AreApplied start pairs (map (λ (x : Bor Entry). x.now) es) parts) lent
-    (subst (λ (ps : List (ℕ × ℕ)). AreApplied start ps (map (λ (x : Bor Entry). x.now) c.deref-2.result.now) parts) c.deref-3.ensures.value c.in_ok-parts.ensures.applied) in
-    let all = ap (list_all is_some) (sym c.deref-4.ensures.value) ∙ sym c.are_all_there.ensures ∙ c.if-not-are_all_there.false in
+    (subst (λ (ps : List (ℕ × ℕ)). AreApplied start ps (map (λ (x : Bor Entry). x.now) c.deref-3.result.now) parts) c.deref-4.ensures.value c.in_ok-parts.ensures.applied) in
+    let all = ap (list_all is_some) (sym c.deref-5.ensures.value) ∙ sym c.are_all_there.ensures ∙ c.if-not-are_all_there.false in
     merged start opened journals are said list firsts.listed pairs parts some below applied all c.in_ok-executed.executed c.in_ok-rows.rows c.in_ok-executed.ensures
     (c.in_ok-rows.ensures (shares start opened journals are said list firsts.listed pairs parts some below applied all))
