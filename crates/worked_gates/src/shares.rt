@@ -47,11 +47,7 @@ fn count_merged(alloc: Global, merged: &Merged) -> Option<(usize, u128)> {
 }
 
 /// How many rows and GTIDs two shares of a bundle's sources have together; None where no shares are made.
-fn merged_by_two<R: Threads + Sync>(
-    rt: &R,
-    alloc: Global,
-    bundle: &Bundle,
-) -> Option<(usize, u128)>
+fn merged_by_two<R: Threads + Sync>(rt: &R, alloc: Global, bundle: &Bundle) -> Option<(usize, u128)>
     requires { IsServable bundle.now }
 {
     let opened = bundle.opening_set();
