@@ -21,6 +21,9 @@
 //! transactions is found in a journal, for which it marks them, and over a list of what the journals bring where not.
 //! That no key is shared is found by marks (`marks`): a hash of the words of a key's values, which equal keys share, kept with its source
 //! (`owners`), in slots of the marks' lowest bits. Only where two sources touch one mark are keys made and looked for.
+//! `list_firsts` gives callers the list of first entries without a look at keys, and `share_no_key` whether two sources touch one: what
+//! `source_shares` does at the same time as it applies them.
+//!
 //! `audit_of` and `audit_keys_of` go over journals that are in order once (`gathering`): each first entry of a GTID touches its marks, and
 //! each further one is compared with the first, which is looked for in the run of its source by its number. `audit_of` then puts the runs
 //! one after another into a list of references, sources ascending (`listed`). A list that is not in the order of GTIDs is not used. Where the
@@ -28,7 +31,7 @@
 //! DoesNotApply is one application of all sources together, which by `one_pass_applies` names the same transaction. Between two numbers
 //! of a source the end of a run of the opening set is looked up, so that the set's size costs nothing.
 //!
-//! Cost, from the code and not proved: n log n in entries at most; the mark of each key is looked for once. Measured: 225,000
+//! Cost, from the code and not proved: n log n in entries at most; the mark of each key is looked for once. Measured: 570,000
 //! transactions a second of 1,000,000. The hash has a fixed seed: whoever writes a journal can make an audit slow, never wrong.
 #![tactic(auto)]
 
