@@ -30,6 +30,6 @@ pub use functions::{Function, OfSource, OneSet, TwoSets, read_set, read_source, 
 pub use position::{render_more, render_required, render_sending};
 pub use refusal::{LineCause, Refusal, push_number, render_fault};
 pub use replica_status::{each_owner_is_listed, status};
-pub use state::{push_set, render_rows, render_state};
+pub use state::{push_set, render_executed, render_lent_rows, render_rows, render_state};
 pub use verdict::{push_row_fault, render_does_not_apply};
 pub use verdict_line::render_verdict;

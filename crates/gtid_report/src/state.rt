@@ -46,8 +46,8 @@ fn push_row(out: &mut String, table: &Name, row: &Row) -> Result<(), AllocError>
     out.push_str("\n")
 }
 
-/// The line of each row that is lent, in the order of the list.
-fn push_rows(out: &mut String, list: &[(&Key, &Row)]) -> Result<(), AllocError>
+/// The line of each row that is lent with its key, in the order of the list.
+pub fn render_lent_rows(out: &mut String, list: &[(&Key, &Row)]) -> Result<(), AllocError>
     ensures { OnOk result (string_bytes out.new ≡ string_bytes out.old ++ flat_map row_line (rows_of (all_shown list.now))) }
 {
     for (key, row) in list {
@@ -95,8 +95,8 @@ pub fn push_set(alloc: Global, out: &mut String, set: &GtidSet) -> Result<(), Al
     push_word(out, &spans)
 }
 
-/// The line of an executed set.
-fn executed_line(alloc: Global, executed: &GtidSet) -> Result<String, AllocError>
+/// The line of an executed set, `-` where it is empty.
+pub fn render_executed(alloc: Global, executed: &GtidSet) -> Result<String, AllocError>
     ensures { IfOk result (λ text. string_bytes text ≡ executed_line executed.now) }
 {
     let mut text = String::from_str(alloc, "executed ")?;
@@ -110,8 +110,8 @@ fn executed_line(alloc: Global, executed: &GtidSet) -> Result<String, AllocError
 pub fn render_state(alloc: Global, executed: &GtidSet, rows: &Rows) -> Result<String, AllocError>
     ensures { IfOk result (λ text. string_bytes text ≡ state_text executed.now rows.now.rows) }
 {
-    let mut text = executed_line(alloc, executed)?;
+    let mut text = render_executed(alloc, executed)?;
     let list = rows.list_lent(alloc)?;
-    push_rows(&mut text, &list)?;
+    render_lent_rows(&mut text, &list)?;
     Ok(text)
 }

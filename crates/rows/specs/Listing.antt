@@ -2,7 +2,7 @@
 use Rattle.std.specs.Prelude.{Bool, ◌==◌, if◌then◌else◌, List, [], ◌∷◌, map, filter}
 use Rattle.std.specs.Borrow.{Bor}
 use Rattle.std.specs.Map.Iter.{deref_pair}
-use Rattle.std.specs.FinMap.{entries}
+use Rattle.std.specs.FinMap.{entries, retain_keys}
 use Rattle.row_images.specs.declared.value.Value.{Value}
 use Rattle.rows.specs.declared.change.Key.{Key}
 use Rattle.rows.specs.declared.change.TableRow.{TableRow}
@@ -28,6 +28,10 @@ primary_rows (e ∷ entries) =
 -- the rows in the order of their primary keys: by table name, and then by the values of the key
 abbrev pub rows_listed : Rows → List TableRow
 rows_listed rows = primary_rows (entries rows)
+
+-- the same rows with their primary keys, in the same order
+abbrev pub entries_listed : Rows → List (Key × List Value)
+entries_listed rows = entries (retain_keys rows is_primary)
 
 -- ---- before they are in order
 

@@ -5,16 +5,14 @@ ghost use Rattle.std.specs.Option.{option_copied};
 ghost use Rattle.std.specs.FinMap as map;
 ghost use Rattle.rows.specs.Apply.{first_taken, first_row, with_row, without_keys, insert_row, delete_row, apply_change, apply_from};
 ghost use Rattle.rows.specs.declared.change.Change.TheVariants.{Update};
-ghost use Rattle.rows.specs.Joining.{IsJoined};
 ghost use Rattle.rows.specs.Keys.{carried_keys};
-ghost use Rattle.rows.specs.Listing.{all_shown, rows_of, rows_listed};
+ghost use Rattle.rows.specs.Listing.{all_shown, entries_listed, rows_listed};
 ghost use Rattle.rows.specs.Making.{IsPut, update_row};
 ghost use Rattle.rows.specs.Patch.{put_over};
 ghost use Rattle.rows.specs.Refusal.{Refuses};
 
 use crate::change::{Change, Key, PrepareFault, RowFault, TableRow};
 use crate::in_place::make_all_in_place;
-use crate::joining::join;
 use crate::keys::{carried_keys, keeps_keys};
 use crate::listing::{list_primary, sort_primary};
 use crate::making::Making;
@@ -85,7 +83,7 @@ impl KeyMap {
 
     /// The same rows in the same order, lent.
     pub(crate) fn lent_primary(&self, alloc: Global) -> Result<Vec<(&Key, &Row)>, AllocError>
-        ensures { IfOk result (λ list. rows_of (all_shown list.items) ≡ rows_listed self.now) }
+        ensures { IfOk result (λ list. all_shown list.items ≡ entries_listed self.now) }
     {
         sort_primary(alloc, &self.carriers)
     }
@@ -134,17 +132,6 @@ impl KeyMap {
         ensures { self.new ≡ map.remove self.old key.now }
     {
         self.carriers.swap_remove(key);
-    }
-
-    /// These rows with what others changed since the opening rows, from which both came.
-    pub(crate) fn joined(self, opening: &KeyMap, other: KeyMap) -> Result<KeyMap, AllocError>
-        ensures { IfOk result (λ joined. IsJoined opening.now self other joined) }
-    {
-        let KeyMap { carriers } = self;
-        let KeyMap { carriers: others } = other;
-        let mut carriers = carriers;
-        join(&mut carriers, &opening.carriers, others)?;
-        Ok(KeyMap { carriers })
     }
 
     /// Puts a row under each of these keys, or under none.

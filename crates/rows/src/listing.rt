@@ -1,7 +1,7 @@
 //! Rows in order.
 ghost use Rattle.std.specs.Prelude.{◌≡◌, true, IsPermutation, IsSortedByKey, OnOk, IfOk};
 ghost use Rattle.std.specs.FinMap as map;
-ghost use Rattle.rows.specs.Listing.{key_shown, all_shown, primary_entries, rows_of, rows_listed};
+ghost use Rattle.rows.specs.Listing.{key_shown, all_shown, entries_listed, primary_entries, rows_of, rows_listed};
 ghost use Rattle.rows.specs.Order.{key_cmp};
 
 use crate::change::{Key, TableRow};
@@ -72,8 +72,10 @@ fn sort_anew(list: &mut Vec<(&Key, &Row)>) -> Result<(), AllocError>
     Ok(())
 }
 
-/// Puts rows in the order of their keys. Of rows of one table no names are compared more than once.
-fn sort_by_keys(list: &mut Vec<(&Key, &Row)>) -> Result<(), AllocError>
+/// Puts rows, lent with their keys, in the order of the keys: by table name, and then by the values. Of rows of one table no names are
+/// compared more than once, and where rows are some lists one after another, each in order, these are merged. After a failed allocation
+/// the same rows are in some order.
+pub fn sort_by_keys(list: &mut Vec<(&Key, &Row)>) -> Result<(), AllocError>
     ensures same { IsPermutation list.old.items list.new.items }
     ensures sorted { OnOk result (IsSortedByKey key_shown key_cmp list.new.items) }
 {
@@ -102,7 +104,7 @@ pub(crate) fn sort_primary<'a>(
     alloc: Global,
     carriers: &'a IndexMap<Key, Row>,
 ) -> Result<Vec<(&'a Key, &'a Row)>, AllocError>
-    ensures { IfOk result (λ list. rows_of (all_shown list.items) ≡ rows_listed (map.from_entries carriers.now.entries)) }
+    ensures { IfOk result (λ list. all_shown list.items ≡ entries_listed (map.from_entries carriers.now.entries)) }
 {
     // `len` is called for its clause that no key occurs twice, which the proof cites.
     let _len = carriers.len();
@@ -119,5 +121,6 @@ pub(crate) fn list_primary(
     ensures { IfOk result (λ list. list.items ≡ rows_listed (map.from_entries carriers.now.entries)) }
 {
     let list = sort_primary(alloc, carriers)?;
-    to_table_rows(alloc, &list)
+    let rows = to_table_rows(alloc, &list)?;
+    Ok(rows)
 }

@@ -6,8 +6,7 @@ ghost use Rattle.std.specs.Option.{option_copied};
 ghost use Rattle.std.specs.FinMap as map;
 ghost use Rattle.rows.specs.Apply.{apply};
 ghost use Rattle.rows.specs.Fits.{misfit, Fits};
-ghost use Rattle.rows.specs.Joining.{ChangedApart, IsJoined};
-ghost use Rattle.rows.specs.Listing.{all_shown, rows_of, rows_listed};
+ghost use Rattle.rows.specs.Listing.{all_shown, entries_listed, rows_of, rows_listed};
 ghost use Rattle.rows.specs.Patch.{seen_of_keys};
 ghost use Rattle.rows.specs.Prepared.{IsStillTrue};
 ghost use Rattle.rows.specs.Database.{opening, AreRowsOf, LeavesImages, NoTwoCarry};
@@ -121,9 +120,11 @@ impl Rows {
 
     /// The same rows in the same order, each lent with its primary key, which names its table.
     pub fn list_lent(&self, alloc: Global) -> Result<Vec<(&Key, &Row)>, AllocError>
-        ensures { IfOk result (λ list. rows_of (all_shown list.items) ≡ rows_listed self.now.rows) }
+        ensures rows { IfOk result (λ list. rows_of (all_shown list.items) ≡ rows_listed self.now.rows) }
+        ensures keys { IfOk result (λ list. all_shown list.items ≡ entries_listed self.now.rows) }
     {
-        self.carriers.lent_primary(alloc)
+        let list = self.carriers.lent_primary(alloc)?;
+        Ok(list)
     }
 
     /// The same rows, whose values both share.
@@ -132,25 +133,6 @@ impl Rows {
     {
         let schema = self.schema.clone()?;
         let carriers = self.carriers.copy()?;
-        Ok(Rows { schema, carriers })
-    }
-
-    /// The rows of both, which came from the same opening rows and changed under different keys. Under each key is the row, or none, of
-    /// the one that changed there, and else the opening row. The rows of `other` move over and are not copied; where there are no opening
-    /// rows, none is looked for. After a failed allocation both are given up.
-    pub fn joined(self, opening: &Rows, other: Rows) -> Result<Rows, AllocError>
-        requires schema { other.schema ≡ self.schema }
-        requires opening { opening.now.schema ≡ self.schema }
-        requires apart { ChangedApart opening.now.rows self.rows other.rows }
-        ensures schema { IfOk result (λ joined. joined.schema ≡ self.schema) }
-        ensures joined { IfOk result (λ joined. IsJoined opening.now.rows self.rows other.rows joined.rows) }
-    {
-        let Rows { schema, carriers } = self;
-        let Rows {
-            schema: _schema,
-            carriers: others,
-        } = other;
-        let carriers = carriers.joined(&opening.carriers, others)?;
         Ok(Rows { schema, carriers })
     }
 

@@ -1,15 +1,14 @@
--- The rows of shares of the sources, and how they join.
-use Rattle.std.proofs.Common.{◌≡◌, ℕ, ◌<◌, ◌==◌, Bool, true, false, cond, ◌&&◌, ◌||◌, inl, inr, List, [], ◌∷◌, Some, Ok, refl, sym, ap, ◌∙◌}
-use Rattle.std.specs.Prelude.{IsOk}
+-- The rows of shares of the sources are parts of the rows of all.
+use Rattle.std.proofs.Common.{◌≡◌, ℕ, zero, suc, ◌<◌, ◌==◌, Bool, true, false, cond, ◌&&◌, ◌⊎◌, inl, inr, List, [], ◌∷◌, length, Some, Ok, refl, sym, ap, ◌∙◌, arith}
+use Rattle.std.specs.Prelude.{IsOk, slice_get}
 use Rattle.std.specs.List.{filter, list_any, AllByRecursion}
 use Rattle.std.specs.FinMap.{get, entries}
-use Rattle.std.proofs.lemmas.Bool.{eqb-true, eq-eqb, cases_Bool, or_cases, or_parts, and_parts}
+use Rattle.std.proofs.lemmas.Bool.{eqb-true, eq-eqb, cases_Bool, or_cases, or_left, or_parts, or_right, and_parts}
 use Rattle.gtid_text.specs.declared.Gtid.{Gtid}
 use Rattle.rows.specs.declared.change.Key.{Key}
 use Rattle.rows.specs.Apply.{Rows}
 use Rattle.rows.specs.WriteSet.{touches}
-use Rattle.rows.specs.Joining.{ChangedApart, IsJoined}
-use Rattle.rows.proofs.Local.{same_rows}
+use Rattle.rows.specs.Parts.{ChangedApart, AreParts}
 use Rattle.rows.proofs.Patching.{not_both}
 use Rattle.ordered_history.specs.LastWriter.{last, left_or_opening}
 use Rattle.ordered_history.proofs.Placing.{kept, chosen_applies, all_map}
@@ -19,9 +18,22 @@ use Rattle.ordered_history.proofs.Closing.{is_ok_of}
 use Rattle.ordered_history.proofs.Writing.{last_writer_stands}
 use Rattle.source_history.specs.World.{World, Entry, content, of_source, apply_all, rows_of, AreKeysSound, IsSound}
 use Rattle.source_history.specs.InOrder.{in_order}
-use Rattle.source_history.specs.Shares.{of_sources, AreDisjoint, is_touched_in, HoldsShare, SharesJoin}
+use Rattle.source_history.specs.Shares.{of_sources, AreShares, SharesAreParts}
 use Rattle.source_history.proofs.Entries.{AreFound, found, apart_sources}
 use Rattle.source_history.proofs.Alone.{source_closed, sources_closed, all_histories}
+
+-- no source passes both
+abbrev AreDisjoint : (ℕ → Bool) → (ℕ → Bool) → Type 0
+AreDisjoint p q = (s : ℕ) → p s ≡ true → q s ≡ false
+
+-- a transaction of the set touches the key
+abbrev is_touched_in : World → (Gtid → Bool) → Key → Bool
+is_touched_in world S k = list_any (λ e. S e.0 && touches world.schema e.1 k) (entries world.contents)
+
+-- Under each key that a transaction of the set touches, the rows have what the whole has, and under each other key the opening row.
+record HoldsShare (world : World) (whole : Rows) (S : Gtid → Bool) (rows : Rows) : Type 0 where
+  own : (k : Key) → is_touched_in world S k ≡ true → get rows k ≡ get whole k
+  rest : (k : Key) → is_touched_in world S k ≡ false → get rows k ≡ get world.opening_rows k
 
 -- ---- lists and tests
 
@@ -60,34 +72,22 @@ none_found : (test : Entry → Bool) (es : List Entry) → AllByRecursion (λ e.
 none_found test [] h = refl
 none_found test (e ∷ es) h = λ i. h.0 i || none_found test es h.1 i
 
-none_passes : {A : Type 0} (t : A → Bool) (xs : List A) → list_any (λ x. false && t x) xs ≡ false
-none_passes t [] = refl
-none_passes t (x ∷ xs) = none_passes t xs
-
 not_two : (q t : Bool) → (t ≡ true → q ≡ false) → (q && t) ≡ false
 not_two true true h = h refl
 not_two true false h = refl
 not_two false t h = refl
 
-either_step : (a b c x y : Bool) → (((a || b) && c) || (x || y)) ≡ (((a && c) || x) || ((b && c) || y))
-either_step true b true x y = refl
-either_step true true false x y = refl
-either_step true false false x y = refl
-either_step false true true true y = refl
-either_step false true true false y = refl
-either_step false true false x y = refl
-either_step false false c x y = refl
+not_same : (s i j : ℕ) → (i ≡ j → ⊥) → (s == i) ≡ true → (s == j) ≡ false
+not_same s i j differ y = elim (cases_Bool (s == j)) [
+  | inl z ↦ absurd (differ (sym (eqb-true s i y) ∙ eqb-true s j z))
+  | inr n ↦ n
+]
 
-any_of_either : {A : Type 0} (p q t : A → Bool) (xs : List A) → list_any (λ x. (p x || q x) && t x) xs ≡ (list_any (λ x. p x && t x) xs || list_any (λ x. q x && t x) xs)
-any_of_either p q t [] = refl
-any_of_either p q t (x ∷ xs) =
-    ap (λ r. ((p x || q x) && t x) || r) (any_of_either p q t xs)
-    ∙ either_step (p x) (q x) (t x) (list_any (λ y. p y && t y) xs) (list_any (λ y. q y && t y) xs)
+both_pass : (a b : Bool) → a ≡ true → b ≡ true → (a && b) ≡ true
+both_pass true b h g = g
+both_pass false b h g = h
 
 -- ---- which keys a share touches
-
-touched_in_either : (world : World) (p q : ℕ → Bool) (k : Key) → is_touched_in world (of_sources (λ s. p s || q s)) k ≡ (is_touched_in world (of_sources p) k || is_touched_in world (of_sources q) k)
-touched_in_either world p q k = any_of_either (λ (e : Entry). p e.0.source) (λ e. q e.0.source) (λ e. touches world.schema e.1 k) (entries world.contents)
 
 -- Where a transaction of these sources touches the key, all that touch it are of these sources.
 only_own : (world : World) → AreKeysSound world → (p : ℕ → Bool) (k : Key) → is_touched_in world (of_sources p) k ≡ true → AllByRecursion (λ e. touches world.schema e.1 k ≡ true → p e.0.source ≡ true) (entries world.contents)
@@ -105,9 +105,6 @@ untouched_by_others world keys p q k disjoint t =
     none_found (λ e. q e.0.source && touches world.schema e.1 k) (entries world.contents)
     (all_map (λ e. touches world.schema e.1 k ≡ true → p e.0.source ≡ true) (λ e. (q e.0.source && touches world.schema e.1 k) ≡ false) (entries world.contents)
     (λ e own. not_two (q e.0.source) (touches world.schema e.1 k) (λ y. disjoint e.0.source (own y))) (only_own world keys p k t))
-
-disjoint_back : (p q : ℕ → Bool) → AreDisjoint p q → AreDisjoint q p
-disjoint_back p q disjoint s y = elim (cases_Bool (p s)) [ inl x ↦ not_both (q s) y (disjoint s x) | inr n ↦ n ]
 
 -- ---- the rows of a set, key by key
 
@@ -155,43 +152,74 @@ holds_share world whole rows p keys all e = record {
   rest = λ k n. untouched_rest world (of_sources p) rows k e n;
 }
 
-none_held : (world : World) (whole : Rows) → HoldsShare world whole (of_sources (λ s. false)) world.opening_rows
-none_held world whole = record {
-  own = λ k t. not_both (is_touched_in world (of_sources (λ s. false)) k) t (none_passes (λ e. touches world.schema e.1 k) (entries world.contents));
-  rest = λ k n. refl;
-}
-
 changed_apart : (world : World) (whole a b : Rows) (p q : ℕ → Bool) → AreKeysSound world → AreDisjoint p q → HoldsShare world whole (of_sources p) a → HoldsShare world whole (of_sources q) b → ChangedApart world.opening_rows a b
 changed_apart world whole a b p q keys disjoint h g k = elim (cases_Bool (is_touched_in world (of_sources p) k)) [
   | inl y ↦ inr (g.rest k (untouched_by_others world keys p q k disjoint y))
   | inr n ↦ inl (h.rest k n)
 ]
 
-joined_hold : (world : World) (whole a b joined : Rows) (p q : ℕ → Bool) → AreKeysSound world → AreDisjoint p q → HoldsShare world whole (of_sources p) a → HoldsShare world whole (of_sources q) b → IsJoined world.opening_rows a b joined → HoldsShare world whole (of_sources (λ s. p s || q s)) joined
-joined_hold world whole a b joined p q keys disjoint h g j =
-    let S = is_touched_in world (of_sources p) in
-    let U = is_touched_in world (of_sources q) in
-    record {
-      own = λ k t. elim (or_cases (S k) (U k) (sym (touched_in_either world p q k) ∙ t)) [
-        | inl y ↦ j.first k (g.rest k (untouched_by_others world keys p q k disjoint y)) ∙ h.own k y
-        | inr y ↦ j.second k (h.rest k (untouched_by_others world keys q p k (disjoint_back p q disjoint) y)) ∙ g.own k y
-      ];
-      rest = λ k n. let both = or_parts (S k) (U k) (sym (touched_in_either world p q k) ∙ n) in j.first k (g.rest k both.1) ∙ h.rest k both.0;
+-- one of the sources whose transactions touch the key
+toucher : (world : World) (share : ℕ → ℕ) (k : Key) (es : List Entry) → list_any (λ e. touches world.schema e.1 k) es ≡ true
+    → (s : ℕ) × (list_any (λ e. (share e.0.source == share s) && touches world.schema e.1 k) es ≡ true)
+toucher world share k [] t = cc
+toucher world share k (e ∷ es) t = elim (or_cases (touches world.schema e.1 k) (list_any (λ e. touches world.schema e.1 k) es) t) [
+  | inl here ↦ (
+    e.0.source,
+    or_left ((share e.0.source == share e.0.source) && touches world.schema e.1 k) _
+        (both_pass (share e.0.source == share e.0.source) (touches world.schema e.1 k) (eq-eqb (share e.0.source) (share e.0.source) refl) here),
+  )
+  | inr later ↦ let one = toucher world share k es later in (one.0, or_right ((share e.0.source == share one.0) && touches world.schema e.1 k) _ one.1)
+]
+
+there_at : (parts : List Rows) (i : ℕ) → i < length parts → (part : Rows) × (slice_get parts i ≡ Some part)
+there_at [] i within = absurd (omega arith)
+there_at (p ∷ parts) zero within = (p, refl)
+there_at (p ∷ parts) (suc i) within = there_at parts i (omega arith)
+
+module _ (world : World) (share : ℕ → ℕ) (parts : List Rows) (keys : AreKeysSound world) (are : AreShares world share parts) where
+  abbrev test : ℕ → ℕ → Bool
+  test i s = share s == i
+
+  shares_sound : IsSound world
+  shares_sound = sound_by_shares world share (length parts) keys are.below
+      (λ i within. let part = there_at parts i within in is_ok_of (rows_of world (of_sources (test i))) part.0 (are.each i part.0 part.1))
+
+  module _ (whole : Rows) (all : rows_of world (λ g. true) ≡ Ok whole) where
+    holds : (i : ℕ) (part : Rows) → slice_get parts i ≡ Some part → HoldsShare world whole (of_sources (test i)) part
+    holds i part at = holds_share world whole part (test i) keys all (are.each i part at)
+
+    each_part : (k : Key) (i : ℕ) (part : Rows) → slice_get parts i ≡ Some part → (get part k ≡ get world.opening_rows k) ⊎ (get part k ≡ get whole k)
+    each_part k i part at = elim (cases_Bool (is_touched_in world (of_sources (test i)) k)) [
+      | inl y ↦ inr ((holds i part at).own k y)
+      | inr n ↦ inl ((holds i part at).rest k n)
+    ]
+
+    some_part : (k : Key) → (get whole k ≡ get world.opening_rows k) ⊎ ((i : ℕ) × (part : Rows) × (slice_get parts i ≡ Some part) × (get part k ≡ get whole k))
+    some_part k = elim (cases_Bool (is_touched_in world (λ g. true) k)) [
+      | inl y ↦ (
+        let one = toucher world share k (entries world.contents) y in
+        let part = there_at parts (share one.0) (are.below one.0) in
+        inr (share one.0, part.0, part.1, (holds (share one.0) part.0 part.1).own k one.1)
+      )
+      | inr n ↦ inl (untouched_rest world (λ g. true) whole k all n)
+    ]
+
+    two_parts : (i j : ℕ) (a b : Rows) → (i ≡ j → ⊥) → slice_get parts i ≡ Some a → slice_get parts j ≡ Some b → ChangedApart world.opening_rows a b
+    two_parts i j a b differ at bt =
+        changed_apart world whole a b (test i) (test j) keys
+        (λ s y. not_same (share s) i j differ y)
+        (holds i a at) (holds j b bt)
+
+    pub are_parts : AreParts world.opening_rows parts whole
+    are_parts = record {
+      each = each_part;
+      some = some_part;
+      apart = two_parts;
     }
 
-whole_share : (world : World) (whole rows : Rows) → rows_of world (λ g. true) ≡ Ok whole → HoldsShare world whole (λ g. true) rows → rows ≡ whole
-whole_share world whole rows all h = same_rows rows whole (λ k. elim (cases_Bool (is_touched_in world (λ g. true) k)) [
-  | inl y ↦ h.own k y
-  | inr n ↦ h.rest k n ∙ sym (untouched_rest world (λ g. true) whole k all n)
-])
-
-pub shares_join : SharesJoin
-shares_join = record {
-  sound = sound_by_shares;
-  applies = share_applies;
-  share = holds_share;
-  none = none_held;
-  apart = changed_apart;
-  join = joined_hold;
-  whole = whole_share;
+pub shares_are_parts : SharesAreParts
+shares_are_parts = record {
+  sound = shares_sound;
+  applies = λ world sound. share_applies world (λ s. true) sound;
+  parts = λ world share parts whole keys are all. are_parts world share parts keys are whole all;
 }

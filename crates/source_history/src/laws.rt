@@ -3,7 +3,7 @@
 ghost use Rattle.source_history.specs.Join.{JoinLaws};
 ghost use Rattle.source_history.specs.SmallWorld.{SoundWorldsExist};
 ghost use Rattle.source_history.specs.InOrder.{SourcesAreAnOrder};
-ghost use Rattle.source_history.specs.Shares.{SharesJoin};
+ghost use Rattle.source_history.specs.Shares.{SharesAreParts};
 ghost use Rattle.source_history.specs.Laws.{UntouchedStays, TouchedDecides, ApartCommute, CommitOrderIsFree, CommitOrdersAgree, LateCommit, EarlyCommit, OpeningIsClosed, ClosedSetsApply, AloneOrTogether, RowIsOfLastWriter, RowsAreCarriers, ClosedUnderUnion, ClosedUnderIntersection, ClosedSetsAreALattice};
 
 /// A transaction leaves what is stored under the keys that it does not touch.
@@ -63,9 +63,9 @@ pub fn alone_or_together()
 {}
 
 /// Where the keys are sound, shares of the sources that are applied each to the opening rows, without
-/// the others, change different keys, and joined they are the rows of all.
-pub fn shares_join()
-    ensures { SharesJoin }
+/// the others, change different keys, and their rows are the parts of the rows of all.
+pub fn shares_are_parts()
+    ensures { SharesAreParts }
 {}
 
 /// Under each key is the row that its last writer left. Only the keys need be sound.

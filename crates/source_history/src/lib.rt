@@ -11,8 +11,8 @@
 //!
 //! The laws: in whatever order transactions are committed, each after those that it depends on, none is refused and the rows are those of
 //! the set (`commit_order_is_free`, `commit_orders_agree`); each key has what its last writer left (`row_is_of_last_writer`); closed sets
-//! are a lattice, with the union as join; shares of the sources that are applied each to the opening rows are joined the rows of all
-//! (`shares_join`). `sound_worlds_exist` shows that the premises can be met.
+//! are a lattice, with the union as join; shares of the sources that are applied each to the opening rows are parts of the rows of all
+//! (`shares_are_parts`). `sound_worlds_exist` shows that the premises can be met.
 //!
 //! Such a world is one of `ordered_history`, by sources and numbers (`sources_are_an_order`), and what is proved there for one order holds
 //! for sources: these laws follow.
@@ -28,6 +28,6 @@ pub use laws::{
     alone_or_together, apart_commute, closed_sets_apply, closed_sets_are_a_lattice,
     closed_under_intersection, closed_under_union, commit_order_is_free, commit_orders_agree,
     early_commit, join_laws, late_commit, opening_is_closed, row_is_of_last_writer,
-    rows_are_carriers, shares_join, sound_worlds_exist, sources_are_an_order, touched_decides,
+    rows_are_carriers, shares_are_parts, sound_worlds_exist, sources_are_an_order, touched_decides,
     untouched_stays,
 };
