@@ -1,28 +1,30 @@
--- The rows of shares, joined, are those of all journals together.
+-- The rows of shares are parts of those of all journals together.
 use Rattle.std.proofs.Common.{map, ◌≡◌, ℕ, zero, suc, ◌<◌, ◌==◌, Bool, true, false, cond, inl, inr, List, [], ◌∷◌, length, Option, Some, None, Ok, refl, sym, ap, ◌∙◌, arith}
-use Rattle.std.specs.Prelude.{slice_get, is_some}
-use Rattle.std.specs.List.{filter, list_all, AllByRecursion}
+use Rattle.std.specs.Prelude.{slice_get}
+use Rattle.std.specs.List.{filter, AllByRecursion}
 use Rattle.std.specs.Option.{unwrap_or}
 use Rattle.std.specs.FinMap as finmap
 use Rattle.std.specs.FinSet as set
-use Rattle.std.proofs.lemmas.Bool.{and_parts, or_cases, or_left, or_right}
+use Rattle.std.proofs.lemmas.Bool.{or_cases, or_left, or_right}
+use Rattle.std.proofs.lemmas.List.{length-map}
+use Rattle.std.proofs.lemmas.Option.{same_Some}
 use Rattle.gtid_text.specs.declared.Gtid.{Gtid}
 use Rattle.gtid_text.proofs.SameGtid.{gtid_total}
 use Rattle.gtid_set.specs.Sets.{Gtids}
 use Rattle.rows.specs.Apply.{Rows}
 use Rattle.rows.specs.Database.{Database}
+use Rattle.rows.proofs.Lists.{get_map_cases, none_some}
 use Rattle.journal.specs.declared.Entry.{Entry}
 use Rattle.journal.specs.Journals.{JournalValue, whole}
 use Rattle.ordered_history.proofs.Placing.{all_map}
-use Rattle.ordered_history.proofs.Closing.{is_ok_of}
 use Rattle.ordered_history.proofs.Merging.{got}
 use Rattle.ordered_journals.proofs.Covering.{is_entry, entries_append, in_whole}
 use Rattle.ordered_replicas.specs.Deciding.{all_of}
 use Rattle.source_history.specs.World.{World, content, apply_all, entries_in, rows_of, AreKeysSound, IsSound}
 use Rattle.source_history.specs.World as history
-use Rattle.source_history.specs.Shares.{HoldsShare, of_sources}
+use Rattle.source_history.specs.Shares.{AreShares, of_sources}
 use Rattle.source_history.proofs.Entries.{found}
-use Rattle.source_history.proofs.Shares.{shares_join}
+use Rattle.source_history.proofs.Shares.{shares_are_parts}
 use Rattle.world.specs.declared.verdict.Verdict.TheVariants.{Sound}
 use Rattle.world.specs.Audit.{all_entries, does_not_apply, found_in_keys, verdict, verdict_of_keys, world_of}
 use Rattle.world.specs.Folds.{shared_from}
@@ -35,7 +37,7 @@ use Rattle.world.proofs.Touching.{one_pass_shares}
 use Rattle.audit.specs.Contents.{as_pair, in_order}
 use Rattle.audit.specs.Firsts.{AreFirsts}
 use Rattle.audit.proofs.Made.{pairs_of}
-use Rattle.source_shares.specs.Merging.{AreMerged, AreShares}
+use Rattle.source_shares.specs.Merging.{AreMerged}
 use Rattle.source_shares.specs.Shares.{AreApplied, AreBelow, is_in_share, share_in}
 
 -- ---- lists
@@ -58,14 +60,17 @@ share_below count ((named, share) ∷ pairs) some are source = by (named == sour
     by true own later = own
     by false own later = later
 
-some_by : (o : Option Database) → is_some o ≡ true → (d : Database) × (o ≡ Some d)
-some_by (Some d) h = (d, refl)
-some_by None h = cc
+get_map : {A B : Type 0} (f : A → B) (xs : List A) (i : ℕ) (x : A) → slice_get xs i ≡ Some x → slice_get (map f xs) i ≡ Some (f x)
+get_map f [] i x e = none_some x e
+get_map f (y ∷ xs) zero x e = ap (λ z. Some (f z)) (same_Some y x e)
+get_map f (y ∷ xs) (suc i) x e = get_map f xs i x e
 
-there_at : (parts : List (Option Database)) (i : ℕ) → list_all is_some parts ≡ true → i < length parts → (d : Database) × (slice_get parts i ≡ Some (Some d))
-there_at [] i all within = absurd (omega arith)
-there_at (p ∷ parts) zero all within = let d = some_by p (and_parts (is_some p) (list_all is_some parts) all).0 in (d.0, ap Some d.1)
-there_at (p ∷ parts) (suc i) all within = there_at parts i (and_parts (is_some p) (list_all is_some parts) all).1 (omega arith)
+-- the rows of each, where each was found
+pub part_at : (found : List (Option Database)) (parts : List Database) (i : ℕ) (rows : Rows) → map Some parts ≡ found → slice_get (map (λ (p : Database). p.rows) parts) i ≡ Some rows
+    → (part : Database) × (slice_get found i ≡ Some (Some part)) × (part.rows ≡ rows)
+part_at found parts i rows are at =
+    let one = get_map_cases (λ (p : Database). p.rows) parts i rows at in
+    (one.0, ap (λ (ps : List (Option Database)). slice_get ps i) (sym are) ∙ get_map Some parts i one.0 one.1, one.2)
 
 -- ---- what journals have a record of is in their union
 
@@ -113,39 +118,38 @@ module _ (start : Database) (opened : Gtids) (journals : List JournalValue) (are
         (keeps_all (λ e. set.contains (all_of opened journals) e.0) (finmap.entries w.contents) all_recorded ∙ sym (keeps_all (λ e. true) (finmap.entries w.contents) (all_true (finmap.entries w.contents))))
         ∙ is
 
-    module _ (list : List Entry) (listed : list ≡ in_order w.contents) (pairs : List (ℕ × ℕ)) (parts : List (Option Database)) (some : 0 < length parts) (below : AreBelow (length parts) pairs)
-        (applied : AreApplied start pairs list parts) (all : list_all is_some parts ≡ true) where
-      abbrev test : ℕ → ℕ → Bool
-      test i s = share_in pairs s == i
+    module _ (list : List Entry) (listed : list ≡ in_order w.contents) (pairs : List (ℕ × ℕ)) (found : List (Option Database)) (parts : List Database) (some : 0 < length found) (below : AreBelow (length found) pairs)
+        (applied : AreApplied start pairs list found) (all : map Some parts ≡ found) where
+      abbrev rows : List Rows
+      rows = map (λ (p : Database). p.rows) parts
 
-      part_rows : (i : ℕ) (part : Database) → slice_get parts i ≡ Some (Some part) → rows_of w (of_sources (test i)) ≡ Ok part.rows
+      same_length : length found ≡ length rows
+      same_length = ap length (sym all) ∙ length-map parts Some ∙ sym (length-map parts (λ (p : Database). p.rows))
+
+      part_rows : (i : ℕ) (part : Rows) → slice_get rows i ≡ Some part → rows_of w (of_sources (λ s. share_in pairs s == i)) ≡ Ok part
       part_rows i part at =
+          let one = part_at found parts i part all at in
           ap (λ (es : List history.Entry). apply_all start.schema (filter (λ (e : history.Entry). is_in_share pairs i e.0.source) es) start.rows) (sym (pairs_of list w.contents listed))
-          ∙ (applied i (Some part) at).1
+          ∙ (applied i (Some one.0) one.1).1
+          ∙ ap Ok one.2
 
-      pub world_sound : IsSound w
-      world_sound = shares_join.sound w (share_in pairs) (length parts) keys (share_below (length parts) pairs some below)
-          (λ i within. let d = there_at parts i all within in is_ok_of (rows_of w (of_sources (test i))) d.0.rows (part_rows i d.0 d.1))
-
-      end : (rows : Rows) × (rows_of w (λ g. true) ≡ Ok rows)
-      end = got (rows_of w (λ g. true)) (shares_join.applies w (λ s. true) world_sound)
-
-      pub shares : AreShares start parts
+      shares : AreShares w (share_in pairs) rows
       shares = record {
-        world = w;
-        whole = end.0;
-        share = share_in pairs;
-        keys = keys;
-        opened = refl;
-        below = share_below (length parts) pairs some below;
-        each = λ i part at. shares_join.share w end.0 part.rows (test i) keys end.1 (part_rows i part at);
-        schemas = λ i part at. (applied i (Some part) at).0;
+        below = λ s. subst (λ n. share_in pairs s < n) same_length (share_below (length found) pairs some below s);
+        each = part_rows;
       }
 
-      pub merged : (executed : Gtids) (rows : Database) → executed ≡ all_of opened journals → HoldsShare shares.world shares.whole (λ g. true) rows.rows → AreMerged opened start journals executed rows
-      unfolding shares end
-      merged executed rows is holds = record {
+      pub world_sound : IsSound w
+      world_sound = shares_are_parts.sound w (share_in pairs) rows keys shares
+
+      end : (whole : Rows) × (rows_of w (λ g. true) ≡ Ok whole)
+      end = got (rows_of w (λ g. true)) (shares_are_parts.applies w world_sound)
+
+      pub merged : (executed : Gtids) → executed ≡ all_of opened journals → AreMerged opened start journals executed parts
+      merged executed is = record {
         sound = sound_verdict world_sound;
         executed_by = is;
-        rows_are = union_rows end.0 end.1 ∙ ap Ok (sym (shares_join.whole w end.0 rows.rows end.1 holds));
+        whole = end.0;
+        rows_are = union_rows end.0 end.1;
+        parts_are = shares_are_parts.parts w (share_in pairs) rows end.0 keys shares end.1;
       }

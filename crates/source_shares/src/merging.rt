@@ -10,7 +10,7 @@ ghost use Rattle.source_shares.specs.Shares.{AreApplied, IsApplied};
 
 use crate::applying::apply_share;
 use crate::executing::union_of;
-use crate::joining::{are_all_there, join_all};
+use crate::gathering::all_parts;
 use crate::sharing::{count_changes, put_into_shares};
 use audit::{keep_rules, list_firsts, share_no_key};
 use gtid_set::GtidSet;
@@ -21,11 +21,11 @@ use std::alloc::{AllocError, Global};
 use std::thread;
 use std::thread::Threads;
 
-/// What journals together result in: the executed set, and the rows.
+/// What journals together result in: the executed set, and parts of the rows.
 #[derive(Drop)]
 pub struct Merged {
     pub executed: GtidSet,
-    pub rows: Rows,
+    pub parts: Vec<Rows>,
 }
 
 /// The rows of each share, applied on a thread of its own where one can be started.
@@ -104,7 +104,7 @@ fn merge_listed<'a, R: Threads + Sync>(
     requires empty { list.old.items ≡ [] }
     requires some { 0 < most }
     requires fitting { AllFit rows.now.schema (in_order (first_contents opened.now (all_entries journals.now))) }
-    ensures { IfSome result (λ merged. AreMerged opened.now rows.now journals.now merged.executed merged.rows) }
+    ensures { IfSome result (λ merged. AreMerged opened.now rows.now journals.now merged.executed merged.parts.items) }
 {
     keep_rules(journals);
     let Ok(true) = list_firsts(alloc, list, opened, journals) else {
@@ -120,17 +120,14 @@ fn merge_listed<'a, R: Threads + Sync>(
     let Ok(shares) = put_into_shares(alloc, &mut counts, count) else {
         return None;
     };
-    let parts = apply_apart(rt, alloc, rows, list, &shares, count)?;
-    if !are_all_there(&parts) {
-        return None;
-    }
-    let rows = join_all(rows, parts)?;
+    let found = apply_apart(rt, alloc, rows, list, &shares, count)?;
+    let parts = all_parts(alloc, found)?;
     let executed = union_of(alloc, opened, journals)?;
-    Some(Merged { executed, rows })
+    Some(Merged { executed, parts })
 }
 
 /// What journals together result in, where the audit of them is Sound and one pass over them shows that their keys are: the executed set
-/// of all of them, and its rows. So many threads at most apply them. The schema takes each transaction beyond the opening set.
+/// of all of them, and the parts of its rows that shares of the sources have. So many threads at most apply them. The schema takes each transaction beyond the opening set.
 pub fn merge_by_shares<R: Threads + Sync>(
     rt: &R,
     alloc: Global,
@@ -141,7 +138,7 @@ pub fn merge_by_shares<R: Threads + Sync>(
 ) -> Option<Merged>
     requires some { 0 < most }
     requires fitting { AllFit rows.now.schema (in_order (first_contents opened.now (all_entries journals.now))) }
-    ensures { IfSome result (λ merged. AreMerged opened.now rows.now journals.now merged.executed merged.rows) }
+    ensures { IfSome result (λ merged. AreMerged opened.now rows.now journals.now merged.executed merged.parts.items) }
 {
     let mut list = Vec::new(alloc);
     merge_listed(rt, alloc, &mut list, opened, rows, journals, most)

@@ -1,0 +1,16 @@
+//! Rows of a whole, listed from parts that several threads made.
+//!
+//! What a contract sees: opening rows, and parts of a whole (`AreParts` of `rows`): each came from the opening rows, and under each key one
+//! of them at most changed what was there. `list_whole` lends the rows of the whole with their primary keys, in the order of `list_lent`
+//! of `rows`, though nobody holds the whole: no row is moved or copied.
+//!
+//! How it goes: each part lists, on a thread of its own, the rows that the opening rows don't have, in order, and one thread lists the
+//! opening rows that every part still has. No key is in two of the lists, so that put one after another and sorted, which merges them,
+//! they are the list of the whole.
+//!
+//! Not proved: speed, and that a thread runs.
+#![tactic(auto)]
+
+mod listing;
+
+pub use listing::list_whole;

@@ -1,0 +1,126 @@
+//! The rows of all parts together, in order.
+ghost use Rattle.std.specs.Prelude.{◌≡◌, IfOk, Some, length};
+ghost use Rattle.std.specs.FinMap as map;
+ghost use Rattle.std.specs.List.{list_all};
+ghost use Rattle.rows.specs.Listing.{all_shown, rows_of, rows_listed};
+ghost use Rattle.rows.specs.Parts.{AreParts};
+ghost use Rattle.rows.specs.Patch.{same_row};
+ghost use Rattle.row_parts.specs.Listing.{AreEntriesAt, changed_entries, entries_at, entries_before, kept_entries, rows_in_each};
+
+use rows::{Key, Row, Rows, sort_by_keys};
+use std::alloc::{AllocError, Global};
+use std::thread;
+use std::thread::Threads;
+
+/// Whether rows have this row under this key.
+fn has_row(rows: &Rows, key: &Key, row: &Row) -> bool
+    ensures { result ≡ same_row (map.get rows.now.rows key.now) (Some row.now) }
+{
+    match rows.carrier(key) {
+        Some(found) => *found == *row,
+        None => false,
+    }
+}
+
+/// Whether each of the parts has this row under this key.
+fn have_row(parts: &[Rows], key: &Key, row: &Row) -> bool
+    ensures { result ≡ list_all (λ p. same_row (map.get p.rows key.now) (Some row.now)) parts.now }
+{
+    for part in parts {
+        if !has_row(part, key, row) {
+            return false;
+        }
+    }
+    true
+}
+
+/// The rows of a part that the opening rows don't have, in the order of their keys.
+fn list_changed<'a>(
+    alloc: Global,
+    opening: &Rows,
+    part: &'a Rows,
+) -> Result<Vec<(&'a Key, &'a Row)>, AllocError>
+    ensures { IfOk result (λ list. all_shown list.items ≡ changed_entries opening.now.rows part.now.rows) }
+{
+    let all = part.list_lent(alloc)?;
+    let mut list = Vec::with_capacity(alloc, all.len())?;
+    for (key, row) in &all {
+        if !has_row(opening, key, row) {
+            list.push((*key, *row))?;
+        }
+    }
+    Ok(list)
+}
+
+/// The opening rows that each part still has, in the order of their keys.
+fn list_kept<'a>(
+    alloc: Global,
+    opening: &'a Rows,
+    parts: &[Rows],
+) -> Result<Vec<(&'a Key, &'a Row)>, AllocError>
+    ensures { IfOk result (λ list. all_shown list.items ≡ kept_entries opening.now.rows (rows_in_each parts.now)) }
+{
+    let all = opening.list_lent(alloc)?;
+    let mut list = Vec::new(alloc);
+    for (key, row) in &all {
+        if have_row(parts, key, row) {
+            list.push((*key, *row))?;
+        }
+    }
+    Ok(list)
+}
+
+/// What the part at a place changed, and behind all parts what is left of the opening rows.
+fn list_at<'a>(
+    alloc: Global,
+    opening: &'a Rows,
+    parts: &'a [Rows],
+    place: usize,
+) -> Result<Vec<(&'a Key, &'a Row)>, AllocError>
+    ensures { IfOk result (λ list. all_shown list.items ≡ entries_at opening.now.rows (rows_in_each parts.now) place) }
+{
+    match parts.get(place) {
+        Some(part) => list_changed(alloc, opening, part),
+        None => list_kept(alloc, opening, parts),
+    }
+}
+
+/// Lists one after another, unless one of them could not be made or memory is refused.
+fn gather<'a>(
+    alloc: Global,
+    lists: &[Result<Vec<(&'a Key, &'a Row)>, AllocError>],
+) -> Result<Vec<(&'a Key, &'a Row)>, AllocError>
+    ensures { IfOk result (λ all. (entries : _) → AreEntriesAt entries lists.now → all_shown all.items ≡ entries_before entries (length lists.now)) }
+{
+    let mut all = Vec::new(alloc);
+    for place in 0..lists.len() {
+        let Ok(list) = &lists[place] else {
+            return Err(AllocError);
+        };
+        all.extend_from_slice(list)?;
+    }
+    Ok(all)
+}
+
+/// The rows of a whole, of which the opening rows and these parts are known, lent with their primary keys: by table name, and then by the
+/// values of the key. Each part is listed on a thread of its own where one can be started.
+pub fn list_whole<'a, R: Threads + Sync>(
+    rt: &R,
+    alloc: Global,
+    opening: &'a Rows,
+    parts: &'a [Rows],
+) -> Result<Vec<(&'a Key, &'a Row)>, AllocError>
+    ensures { IfOk result (λ list. (whole : _) → AreParts opening.now.rows (rows_in_each parts.now) whole → rows_of (all_shown list.items) ≡ rows_listed whole) }
+{
+    let lists = thread::map_indices(
+        rt,
+        alloc,
+        parts.len() + 1,
+        &|place: usize| -> Result<Vec<(&'a Key, &'a Row)>, AllocError>
+            ensures { IfOk result (λ list. all_shown list.items ≡ entries_at opening.entry.now.rows (rows_in_each parts.entry.now) place) }
+        { list_at(alloc, opening, parts, place) },
+    )?;
+    let mut list = gather(alloc, &lists)?;
+    sort_by_keys(&mut list)?;
+    Ok(list)
+}
