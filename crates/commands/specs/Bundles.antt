@@ -1,7 +1,8 @@
 -- What the commands on bundles answer.
-use Rattle.std.specs.Prelude.{ℕ, List, Some, None, Result, Ok, Err}
+use Rattle.std.specs.Prelude.{ℕ, List, ◌++◌, flat_map, Some, None, Result, Ok, Err}
 use Rattle.std.specs.FinSet as set
 use Rattle.rows.specs.declared.change.RowFault.{RowFault}
+use Rattle.rows.specs.declared.change.TableRow.{TableRow}
 use Rattle.rows.specs.Apply.{Rows}
 use Rattle.world.specs.declared.verdict.Verdict.{Verdict}
 use Rattle.world.specs.declared.verdict.Verdict.TheVariants.{Sound}
@@ -14,7 +15,7 @@ use Rattle.txn_journal.specs.BundleText.{WritesBundleBy, WritesBundle, upgrade_o
 use Rattle.txn_journal.specs.BundleRefused.{RefusesBundleBy, RefusesBundle}
 use Rattle.txn_journal.specs.declared.lines.Version.TheVariants.{One}
 use Rattle.txn_journal.specs.declared.fault.JournalFault.{JournalFault}
-use Rattle.gtid_report.specs.State.{state_text}
+use Rattle.gtid_report.specs.State.{executed_line, row_line, state_text}
 use Rattle.gtid_report.specs.VerdictLines.{verdict_line}
 use Rattle.ordered_history.specs.World as ordered
 use Rattle.serving.specs.declared.order.Order.{Order}
@@ -73,6 +74,10 @@ abbrev pub Upgrades : List ℕ → Printed → Type 0
 Upgrades bytes printed = IsAnswerTo ParsesAsOldBundle old_bundle_in upgrade_answer (λ b f. ⊥) bytes printed
 
 -- ---- the state
+
+-- an executed set and these rows, in this order
+abbrev pub printed_rows : Gtids → List TableRow → Printed
+printed_rows executed listed = record { text = executed_line executed ++ flat_map row_line listed; outcome = Done }
 
 abbrev pub printed_state : Gtids → Rows → Printed
 printed_state executed rows = record { text = state_text executed rows; outcome = Done }

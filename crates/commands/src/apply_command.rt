@@ -6,7 +6,10 @@ ghost use Rattle.serving.specs.declared.order.Order.TheVariants.{BySource};
 ghost use Rattle.serving.specs.Servable.{IsServable};
 ghost use Rattle.serving.specs.Verdicts.{HasMerged, IsStateOrVerdict, IsUnsound};
 ghost use Rattle.commands.specs.Printed.{Holds, GivesUp, to_all, IsDone, HasFailed};
-ghost use Rattle.commands.specs.Bundles.{printed_state, apply_answer, Applies};
+ghost use Rattle.rows.specs.Listing.{all_shown, rows_of};
+ghost use Rattle.rows.specs.Parts.{AreParts};
+ghost use Rattle.row_parts.specs.Listing.{rows_in_each};
+ghost use Rattle.commands.specs.Bundles.{printed_rows, printed_state, apply_answer, Applies};
 
 use crate::answer::Answer;
 use crate::audit_command::verdict_answer;
@@ -17,13 +20,14 @@ use crate::request::{Request, answer_decoded, run};
 use crate::side_by_side::serve_beside;
 use crate::streams::Streams;
 use applier::{Gate, NoGate};
-use gtid_report::{Fault, render_state};
+use gtid_report::{Fault, render_executed, render_lent_rows, render_state};
 use gtid_set::GtidSet;
 use journal::{Entry, Journal};
 use replica_core::Core;
-use rows::Rows;
+use row_parts::list_whole;
+use rows::{Key, Row, Rows};
 use serving::{Order, StateOrVerdict, serve};
-use source_shares::merge_by_shares;
+use source_shares::{Merged, merge_by_shares};
 use std::alloc::{AllocError, Global};
 use std::mem;
 use std::sync::Wait;
@@ -31,22 +35,45 @@ use std::thread::Threads;
 use txn_journal::Bundle;
 use world::Verdict;
 
-/// The lines of an executed set and rows.
-fn printed_answer(alloc: Global, executed: &GtidSet, rows: &Rows) -> Result<Answer, AllocError>
-    ensures { IfOk result (λ answer. Holds answer (printed_state executed.now rows.now.rows)) }
+/// The lines of a replica's state.
+fn state_answer(alloc: Global, core: &Core) -> Result<Answer, AllocError>
+    ensures { IfOk result (λ answer. Holds answer (printed_state core.now.state.executed core.now.state.rows)) }
 {
-    let text = render_state(alloc, executed, rows)?;
+    let text = render_state(alloc, core.executed(), core.rows())?;
     Ok(Answer {
         outcome: Outcome::Done,
         text,
     })
 }
 
-/// The lines of a replica's state.
-fn state_answer(alloc: Global, core: &Core) -> Result<Answer, AllocError>
-    ensures { IfOk result (λ answer. Holds answer (printed_state core.now.state.executed core.now.state.rows)) }
+/// The lines of an executed set, and of rows that are lent in order.
+fn listed_answer(
+    alloc: Global,
+    executed: &GtidSet,
+    list: &[(&Key, &Row)],
+) -> Result<Answer, AllocError>
+    ensures { IfOk result (λ answer. Holds answer (printed_rows executed.now (rows_of (all_shown list.now)))) }
 {
-    printed_answer(alloc, core.executed(), core.rows())
+    let mut text = render_executed(alloc, executed)?;
+    render_lent_rows(&mut text, list)?;
+    Ok(Answer {
+        outcome: Outcome::Done,
+        text,
+    })
+}
+
+/// The lines of what journals together result in.
+fn parts_answer<R: Threads + Sync>(
+    rt: &R,
+    alloc: Global,
+    opening: &Rows,
+    merged: &Merged,
+) -> Result<Answer, AllocError>
+    ensures { IfOk result (λ answer. (whole : _) → AreParts opening.now.rows (rows_in_each merged.now.parts.items) whole → Holds answer (printed_state merged.now.executed whole)) }
+{
+    let list = list_whole(rt, alloc, opening, &merged.parts)?;
+    let answer = listed_answer(alloc, &merged.executed, &list)?;
+    Ok(answer)
 }
 
 /// The line of a verdict on a bundle that is not Sound.
@@ -126,11 +153,12 @@ fn apply_by_shares<R: Threads + Sync>(
 {
     let most = usize::from(workers).min(MOST_SHARES);
     let opened = bundle.opening_set();
-    let found = merge_by_shares(rt, alloc, opened, bundle.rows(), bundle.journals(), most);
+    let rows = bundle.rows();
+    let found = merge_by_shares(rt, alloc, opened, rows, bundle.journals(), most);
     let Some(merged) = found else {
         return Ok(None);
     };
-    let answer = printed_answer(alloc, &merged.executed, &merged.rows);
+    let answer = parts_answer(rt, alloc, rows, &merged);
     mem::forget(merged);
     Ok(Some(answer?))
 }

@@ -2,6 +2,8 @@
 ghost use Rattle.std.specs.Prelude.{◌≡◌};
 ghost use Rattle.serving.specs.Servable.{IsServable};
 
+use row_parts::list_whole;
+use rows::Rows;
 use serving::written_is_servable;
 use source_shares::{Merged, merge_by_shares};
 use std::alloc::Global;
@@ -39,8 +41,13 @@ done
 ";
 
 /// How many rows and GTIDs were merged.
-fn count_merged(alloc: Global, merged: &Merged) -> Option<(usize, u128)> {
-    match merged.rows.list_sorted(alloc) {
+fn count_merged<R: Threads + Sync>(
+    rt: &R,
+    alloc: Global,
+    opening: &Rows,
+    merged: &Merged,
+) -> Option<(usize, u128)> {
+    match list_whole(rt, alloc, opening, &merged.parts) {
         Ok(rows) => Some((rows.len(), merged.executed.count())),
         Err(_) => None,
     }
@@ -51,9 +58,10 @@ fn merged_by_two<R: Threads + Sync>(rt: &R, alloc: Global, bundle: &Bundle) -> O
     requires { IsServable bundle.now }
 {
     let opened = bundle.opening_set();
-    let found = merge_by_shares(rt, alloc, opened, bundle.rows(), bundle.journals(), 2);
+    let rows = bundle.rows();
+    let found = merge_by_shares(rt, alloc, opened, rows, bundle.journals(), 2);
     match found {
-        Some(merged) => count_merged(alloc, &merged),
+        Some(merged) => count_merged(rt, alloc, rows, &merged),
         None => None,
     }
 }
