@@ -2,8 +2,8 @@
 //!
 //! What a contract sees: the bytes of the text, and the bundle or the fault that they are. The clauses of `decode_beside` are those of
 //! `decode_bundle` of `txn_journal`: the same text is accepted as the same bundle, and refused at the same line for the same cause,
-//! whatever the number of threads, whichever of them could be started and however the text is cut into parts. `read_beside` gives the
-//! reader that has come so far, for callers that end it themselves.
+//! whatever the number of threads, whichever of them could be started and however the text is cut into parts. `feed_beside` takes
+//! one more piece, for callers that read while it does.
 //!
 //! How it goes: a text is cut into blocks of 1 MiB for each thread that parses, and a block into as many parts, cut anywhere. What the
 //! lines of changes write is read on those threads (`ParsedLines` of `txn_journal`), while another takes the lines of the block before
@@ -16,4 +16,4 @@
 mod parts;
 mod reading;
 
-pub use reading::{decode_beside, read_beside};
+pub use reading::{decode_beside, feed_beside};

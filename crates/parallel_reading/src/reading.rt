@@ -74,22 +74,23 @@ fn take_and_parse<'a, R: Threads + Sync>(
     )
 }
 
-/// A reader of bundles after all bytes of a text. Its lines are parsed by one thread less than there are workers, but by one at least
-/// and four at most, while the lines before them are taken.
-pub fn read_beside<R: Threads + Sync>(
+/// A reader of bundles after all bytes of one more piece of a text. Its lines are parsed by one thread less than there are workers, but
+/// by one at least and four at most, while the lines before them are taken.
+pub fn feed_beside<R: Threads + Sync>(
     rt: &R,
     alloc: Global,
-    text: &[u8],
+    reader: BundleReader,
+    piece: &[u8],
     workers: u8,
 ) -> BundleReader
-    ensures { HasCome result text.now }
+    ensures { (bytes : List ℕ) → HasCome reader bytes → HasCome result (bytes ++ piece.now) }
 {
     let parsers = usize::from(workers)
         .saturating_sub(1)
         .clamp(1, MOST_PARSERS);
     let size = PART * parsers;
-    let mut reader = BundleReader::start(alloc);
-    let (mut block, mut left) = cut_block(text, size);
+    let mut reader = reader;
+    let (mut block, mut left) = cut_block(piece, size);
     let mut parsed = parse_block(rt, alloc, block, PART);
     'reading: while !left.is_empty() {
         let (next, after) = cut_block(left, size);
@@ -119,5 +120,6 @@ pub fn decode_beside<R: Threads + Sync>(
     // The same, by the fold over the bytes.
     ensures exact { IsWhole result (closing_bundle (feed_bundle_bytes (bundle_start None) bytes.now)) }
 {
-    read_beside(rt, alloc, bytes, workers).finish()
+    let reader = feed_beside(rt, alloc, BundleReader::start(alloc), bytes, workers);
+    reader.finish()
 }
