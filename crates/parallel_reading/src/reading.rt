@@ -10,8 +10,8 @@ ghost use Rattle.parallel_reading.specs.Coming.{HasCome};
 
 use crate::parts::{cut_block, parse_block};
 use std::alloc::{AllocError, Global};
-use std::thread;
 use std::thread::Threads;
+use std::{mem, thread};
 use txn_journal::{Bundle, BundleReader, JournalFault, ParsedLines};
 
 /// How many bytes a thread parses at a time.
@@ -74,9 +74,8 @@ fn take_and_parse<'a, R: Threads + Sync>(
     )
 }
 
-/// A reader of bundles after all bytes of one more piece of a text. Its lines are parsed by one thread less than there are workers, but
-/// by one at least and four at most, while the lines before them are taken.
-pub fn feed_beside<R: Threads + Sync>(
+/// A reader of bundles after all bytes of one more piece of a text.
+fn fed_beside<R: Threads + Sync>(
     rt: &R,
     alloc: Global,
     reader: BundleReader,
@@ -104,6 +103,21 @@ pub fn feed_beside<R: Threads + Sync>(
     reader
 }
 
+/// Takes the next piece of a text. Its lines are parsed by one thread less than there are workers, but by one at least and four at most,
+/// while the lines before them are taken. What is wrong with the text is told when the reader ends.
+pub fn feed_beside<R: Threads + Sync>(
+    rt: &R,
+    alloc: Global,
+    reader: &mut BundleReader,
+    piece: &[u8],
+    workers: u8,
+)
+    ensures { (bytes : List ℕ) → HasCome reader.old bytes → HasCome reader.new (bytes ++ piece.now) }
+{
+    let taken = mem::replace(reader, BundleReader::start(alloc));
+    *reader = fed_beside(rt, alloc, taken, piece, workers);
+}
+
 /// The bundle that the bytes parse as, all of the bytes, by either version of the format. Its lines are parsed by several threads.
 pub fn decode_beside<R: Threads + Sync>(
     rt: &R,
@@ -120,6 +134,6 @@ pub fn decode_beside<R: Threads + Sync>(
     // The same, by the fold over the bytes.
     ensures exact { IsWhole result (closing_bundle (feed_bundle_bytes (bundle_start None) bytes.now)) }
 {
-    let reader = feed_beside(rt, alloc, BundleReader::start(alloc), bytes, workers);
+    let reader = fed_beside(rt, alloc, BundleReader::start(alloc), bytes, workers);
     reader.finish()
 }

@@ -12,7 +12,7 @@ use Rattle.parallel_reading.proofs.reading.decode_beside.Goals as goal
 pub returns : goal.returns
 returns g c =
     let bytes = c.args.bytes.now in
-    let read = subst (λ (r : Result BundleValue JournalFault). IsWholeOr (IsFaultOfBundle (bundle_start None) bytes) r (closing_bundle (feed_bundle_bytes (bundle_start None) bytes))) (sym c.finish.ensures) (closed_after (bundles None) bytes (bundle_reading c.feed_beside-reader.result) (c.feed_beside-reader.ensures [] (inr c.start.ensures))) in
+    let read = subst (λ (r : Result BundleValue JournalFault). IsWholeOr (IsFaultOfBundle (bundle_start None) bytes) r (closing_bundle (feed_bundle_bytes (bundle_start None) bytes))) (sym c.finish.ensures) (closed_after (bundles None) bytes (bundle_reading c.fed_beside-reader.result) (c.fed_beside-reader.ensures [] (inr c.start.ensures))) in
     record {
       found = is_found (bundles None) (IsSoundBundle None) (bundle_laws None) c.finish.result bytes read;
       only = is_only (bundles None) (IsSoundBundle None) (bundle_laws None) c.finish.result bytes read;
