@@ -1,5 +1,5 @@
 -- What readers and writers promise.
-use Rattle.std.specs.Prelude.{◌≡◌, ℕ, ◌+◌, ◌-◌, ◌^◌, ◌≤◌, ◌⊎◌, min, List, take, length, Option}
+use Rattle.std.specs.Prelude.{◌≡◌, ℕ, ◌+◌, ◌-◌, ◌^◌, ◌<◌, ◌≤◌, ◌⊎◌, Bool, true, false, min, List, take, length, Option}
 use Rattle.std.specs.Io.KnownBytes.{Appends, Consumes, IsAtEnd}
 use Rattle.commands.specs.declared.edge.RunFault.{RunFault}
 use Rattle.commands.specs.declared.edge.RunFault.TheVariants.{Memory, Read, Write}
@@ -38,6 +38,12 @@ Begins old new text = (n : ℕ) × Appends old new (take n text)
 -- these bytes were read, and they were all
 abbrev pub HasRead : Option (List ℕ) → Option (List ℕ) → List ℕ → Type 0
 HasRead old new bytes = Consumes old new bytes × IsAtEnd new
+
+-- these bytes were read, and whether they were the last; there are some if not
+pub record HasReadBlock (old new : Option (List ℕ)) (bytes : List ℕ) (is_last : Bool) : Type 0 where
+  pub taken : Consumes old new bytes
+  pub last : is_last ≡ true → IsAtEnd new
+  pub some : is_last ≡ false → 0 < length bytes
 
 -- so much was read that the bound of reads was met
 abbrev pub HasReadTooMuch : Option (List ℕ) → Option (List ℕ) → Type 0

@@ -2,6 +2,8 @@
 use Rattle.std.specs.Prelude.{ℕ, List, Option, Result, IfOk}
 use Rattle.txn_journal.specs.Stream.{IsWhole}
 use Rattle.txn_journal.specs.declared.fault.JournalFault.{JournalFault}
+use Rattle.txn_journal.specs.declared.bundle_reader.BundleReader.{BundleReader}
+use Rattle.parallel_reading.specs.Coming.{HasCome}
 use Rattle.commands.specs.Edge.{HasRead}
 
 -- the bytes parse as this: by their grammar, and by the fold over them, unless a set was not made
@@ -15,3 +17,9 @@ pub record HasFound {V : Type 0} (Parses : List ℕ → Result V JournalFault �
   pub bytes : List ℕ
   pub all : HasRead old new bytes
   pub text : IsTextOf Parses decoded IsRead bytes found
+
+-- some bytes were read, they were all, and they have come to a reader of bundles
+pub record HasAllCome (old new : Option (List ℕ)) (reader : BundleReader) : Type 0 where
+  pub bytes : List ℕ
+  pub all : HasRead old new bytes
+  pub come : HasCome reader bytes

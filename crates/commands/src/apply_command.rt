@@ -297,8 +297,8 @@ impl<'a, R: Threads + Wait + Sync> Request for Apply<'a, R> {
 
 /// Reads a bundle, and writes the state in which all its journals are executed, or the line of the
 /// verdict of the audit that asks for this order, where that is not Sound, or the line of its refusal, and nothing else.
-/// With two workers and more, the lines of the bundle are parsed by threads too.
-pub fn apply_bundle<S: Source, W: Sink, R: Threads + Wait + Sync>(
+/// With two workers and more, the lines of the bundle are parsed by threads too, while what follows is read.
+pub fn apply_bundle<S: Source + Send, W: Sink, R: Threads + Wait + Sync>(
     rt: &R,
     alloc: Global,
     order: Order,

@@ -8,13 +8,12 @@ ghost use Rattle.commands.specs.Texts.{HasFound};
 use crate::edge::{RunFault, Sink, Source};
 use crate::streams::Streams;
 use crate::text::Text;
-use parallel_reading::read_beside;
 use std::alloc::Global;
 use std::thread::Threads;
 use txn_journal::{Bundle, JournalFault};
 
 /// What all bytes that a reader has left parse as. Their lines are parsed by several threads.
-pub(crate) fn read_bundle<S: Source, W: Sink, R: Threads + Sync>(
+pub(crate) fn read_bundle<S: Source + Send, W: Sink, R: Threads + Sync>(
     rt: &R,
     alloc: Global,
     workers: u8,
@@ -24,11 +23,8 @@ pub(crate) fn read_bundle<S: Source, W: Sink, R: Threads + Sync>(
     ensures read { IfOk result (HasFound ParsesAsBundle bundle_in IsServable streams.old.input.left streams.new.input.left) }
     ensures fault { IfErr result (ReadFault streams.old.input streams.new.input) }
 {
-    match streams.read_all(alloc) {
-        Ok(bytes) => {
-            let reader = read_beside(rt, alloc, &bytes, workers);
-            Ok(<Bundle as Text>::finish(alloc, reader))
-        }
+    match streams.read_beside(rt, alloc, workers) {
+        Ok(reader) => Ok(<Bundle as Text>::finish(alloc, reader)),
         Err(fault) => Err(fault),
     }
 }

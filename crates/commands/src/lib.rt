@@ -25,6 +25,7 @@
 mod answer;
 mod apply_command;
 mod audit_command;
+mod blocks;
 mod bundle_reading;
 mod edge;
 mod explain_command;

@@ -2,16 +2,18 @@
 ghost use Rattle.std.specs.Prelude.{◌≡◌, IfOk, IfErr, OnOk, OnErr, string_bytes};
 ghost use Rattle.std.specs.Io.KnownBytes.{Appends};
 ghost use Rattle.commands.specs.Edge.{input_of, output_of, one_more, Begins, HasRead, ReadFault};
-ghost use Rattle.commands.specs.Texts.{HasFound};
+ghost use Rattle.commands.specs.Texts.{HasAllCome, HasFound};
 
 use crate::answer::Answer;
+use crate::blocks::read_beside;
 use crate::edge::{Outcome, RunFault, Sink, Source};
 use crate::reading::read_text;
 use crate::text::Text;
 use crate::whole::read_all;
 use std::alloc::Global;
 use std::marker::Model;
-use txn_journal::JournalFault;
+use std::thread::Threads;
+use txn_journal::{BundleReader, JournalFault};
 
 /// A reader and a writer: what a command reads, and where it writes its answer.
 #[derive(Drop)]
@@ -53,6 +55,22 @@ impl<S: Source, W: Sink> Streams<S, W> {
         ensures fault { IfErr result (ReadFault self.old.input self.new.input) }
     {
         read_all(alloc, &mut self.reader)
+    }
+
+    /// A reader of bundles after all bytes that the reader has left. Their lines are parsed by threads, while what follows is read.
+    pub(crate) fn read_beside<R: Threads + Sync>(
+        &mut self,
+        rt: &R,
+        alloc: Global,
+        workers: u8,
+    ) -> Result<BundleReader, RunFault>
+    where
+        S: Send,
+        ensures output { self.new.output ≡ self.old.output }
+        ensures read { IfOk result (HasAllCome self.old.input.left self.new.input.left) }
+        ensures fault { IfErr result (ReadFault self.old.input self.new.input) }
+    {
+        read_beside(rt, alloc, workers, &mut self.reader)
     }
 
     /// What all bytes that the reader has left parse as.

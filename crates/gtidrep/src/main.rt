@@ -49,7 +49,7 @@ fn read_words(rt: &HostRuntime) -> Result<Vec<String>, CommandFault> {
 }
 
 /// Runs a command over these streams.
-fn run_over<T: Threads + Wait + Sync, S: Source, W: Sink>(
+fn run_over<T: Threads + Wait + Sync, S: Source + Send, W: Sink>(
     rt: &HostRuntime,
     threads: &T,
     command: Command,

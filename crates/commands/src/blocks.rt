@@ -1,0 +1,96 @@
+//! Text that is read in blocks, each while the lines of the one before are parsed.
+ghost use Rattle.std.specs.Prelude.{◌≡◌, ◌++◌, List, ℕ, IfOk, IfErr, OnOk};
+ghost use Rattle.std.specs.Thread.{IsSync};
+ghost use Rattle.parallel_reading.specs.Coming.{HasCome};
+ghost use Rattle.commands.specs.Edge.{input_of, HasReadBlock, ReadFault};
+ghost use Rattle.commands.specs.Texts.{HasAllCome};
+
+use crate::edge::{RunFault, Source};
+use crate::reading::MOST_READS;
+use parallel_reading::feed_beside;
+use std::alloc::Global;
+use std::mem;
+use std::thread::{Threads, join_mut};
+use txn_journal::BundleReader;
+
+/// How many reads, of at most 65,536 bytes each, make a block: 16 MiB.
+const BLOCK_READS: usize = 256;
+
+/// Reads the next block, and whether it is the last. What was in the block is given up.
+fn read_block<S: Source>(source: &mut S, block: &mut Vec<u8>) -> Result<bool, RunFault>
+    ensures read { IfOk result (HasReadBlock (S.left source.old) (S.left source.new) block.new.items) }
+    ensures calm { OnOk result (S.failed source.new ≡ S.failed source.old) }
+    ensures fault { IfErr result (ReadFault (input_of S.left S.failed source.old) (input_of S.left S.failed source.new)) }
+{
+    block.clear();
+    let mut piece = [0u8; 65_536];
+    for _read in 0..BLOCK_READS {
+        let Ok(n) = source.read(&mut piece) else {
+            return Err(RunFault::Read);
+        };
+        if n == 0 {
+            return Ok(true);
+        }
+        let Ok(()) = block.extend_from_slice(&piece[..n]) else {
+            return Err(RunFault::Memory);
+        };
+    }
+    Ok(false)
+}
+
+/// Takes a block, whose lines are parsed by threads, while the next one is read.
+fn take_and_read<S: Source + Send, R: Threads + Sync>(
+    rt: &R,
+    alloc: Global,
+    workers: u8,
+    reader: &mut BundleReader,
+    block: &[u8],
+    source: &mut S,
+    next: &mut Vec<u8>,
+) -> Result<bool, RunFault>
+    ensures taken { (bytes : List ℕ) → HasCome reader.old bytes → HasCome reader.new (bytes ++ block.now) }
+    ensures read { IfOk result (HasReadBlock (S.left source.old) (S.left source.new) next.new.items) }
+    ensures calm { OnOk result (S.failed source.new ≡ S.failed source.old) }
+    ensures fault { IfErr result (ReadFault (input_of S.left S.failed source.old) (input_of S.left S.failed source.new)) }
+{
+    let (read, ()) = join_mut(
+        rt,
+        &mut || -> Result<bool, RunFault>
+            ensures read { IfOk result (HasReadBlock (S.left source.entry.now) (S.left source.exit.now) next.exit.now.items) }
+            ensures calm { OnOk result (S.failed source.exit.now ≡ S.failed source.entry.now) }
+            ensures fault { IfErr result (ReadFault (input_of S.left S.failed source.entry.now) (input_of S.left S.failed source.exit.now)) }
+        { read_block(source, next) },
+        &mut ||
+            requires { IsSync R.row }
+            ensures { (bytes : List ℕ) → HasCome reader.entry.now bytes → HasCome reader.exit.now (bytes ++ block.entry.now) }
+        { feed_beside(rt, alloc, reader, block, workers) },
+    );
+    read
+}
+
+/// A reader of bundles after all bytes that a source has left. They are read in blocks, each while threads parse the lines of the one
+/// before.
+pub(crate) fn read_beside<S: Source + Send, R: Threads + Sync>(
+    rt: &R,
+    alloc: Global,
+    workers: u8,
+    source: &mut S,
+) -> Result<BundleReader, RunFault>
+    ensures read { IfOk result (HasAllCome (S.left source.old) (S.left source.new)) }
+    ensures calm { OnOk result (S.failed source.new ≡ S.failed source.old) }
+    ensures fault { IfErr result (ReadFault (input_of S.left S.failed source.old) (input_of S.left S.failed source.new)) }
+{
+    let mut reader = BundleReader::start(alloc);
+    let mut block = Vec::new(alloc);
+    let mut next = Vec::new(alloc);
+    let mut is_last = read_block(source, &mut block)?;
+    for _turn in 0..MOST_READS {
+        if is_last {
+            feed_beside(rt, alloc, &mut reader, &block, workers);
+            return Ok(reader);
+        }
+        is_last = take_and_read(rt, alloc, workers, &mut reader, &block, source, &mut next)?;
+        mem::swap(&mut block, &mut next);
+    }
+    Err(RunFault::Read)
+}
