@@ -7,3 +7,5 @@ pub mod Coming
 pub mod Answering
 pub mod Explaining
 pub mod Unsound
+pub mod ReadBlocks
+pub mod RowLines

@@ -58,3 +58,9 @@ abbrev pub ReadFault : {S : Type 0} → Input S → Input S → RunFault → Typ
 ReadFault old new Read = IsReadFault old new
 ReadFault old new Memory = Unit {0}
 ReadFault old new Write = ⊥
+
+-- why reading a block ended
+abbrev pub BlockFault : {S : Type 0} → Input S → Input S → RunFault → Type 0
+BlockFault old new Read = new.failed ≡ one_more old.failed
+BlockFault old new Memory = Unit {0}
+BlockFault old new Write = ⊥

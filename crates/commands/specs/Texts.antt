@@ -1,5 +1,5 @@
 -- What bytes that come in pieces parse as.
-use Rattle.std.specs.Prelude.{ℕ, List, Option, Result, IfOk}
+use Rattle.std.specs.Prelude.{ℕ, List, ◌++◌, Option, Result, IfOk}
 use Rattle.txn_journal.specs.Stream.{IsWhole}
 use Rattle.txn_journal.specs.declared.fault.JournalFault.{JournalFault}
 use Rattle.txn_journal.specs.declared.bundle_reader.BundleReader.{BundleReader}
@@ -23,3 +23,7 @@ pub record HasAllCome (old new : Option (List ℕ)) (reader : BundleReader) : Ty
   pub bytes : List ℕ
   pub all : HasRead old new bytes
   pub come : HasCome reader bytes
+
+-- a block more has come to a reader of bundles
+pub record IsFed (old new : BundleReader) (block : List ℕ) : Type 0 where
+  pub come : (bytes : List ℕ) → HasCome old bytes → HasCome new (bytes ++ block)

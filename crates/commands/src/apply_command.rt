@@ -16,11 +16,12 @@ use crate::audit_command::verdict_answer;
 use crate::bundle_reading::read_bundle;
 use crate::edge::{Outcome, RunFault, Sink, Source};
 use crate::parallel::apply_journals;
+use crate::printing::render_beside;
 use crate::request::{Request, answer_decoded, run};
 use crate::side_by_side::serve_beside;
 use crate::streams::Streams;
 use applier::{Gate, NoGate};
-use gtid_report::{Fault, render_executed, render_lent_rows, render_state};
+use gtid_report::{Fault, render_executed, render_state};
 use gtid_set::GtidSet;
 use journal::{Entry, Journal};
 use replica_core::Core;
@@ -46,16 +47,20 @@ fn state_answer(alloc: Global, core: &Core) -> Result<Answer, AllocError>
     })
 }
 
+/// How often the list of rows is halved for threads that print it.
+const HALVINGS: u8 = 2;
+
 /// The lines of an executed set, and of rows that are lent in order.
-fn listed_answer(
+fn listed_answer<R: Threads + Sync>(
+    rt: &R,
     alloc: Global,
     executed: &GtidSet,
     list: &[(&Key, &Row)],
 ) -> Result<Answer, AllocError>
     ensures { IfOk result (λ answer. Holds answer (printed_rows executed.now (rows_of (all_shown list.now)))) }
 {
-    let mut text = render_executed(alloc, executed)?;
-    render_lent_rows(&mut text, list)?;
+    let line = render_executed(alloc, executed)?;
+    let text = render_beside(rt, alloc, line, list, HALVINGS)?;
     Ok(Answer {
         outcome: Outcome::Done,
         text,
@@ -72,7 +77,7 @@ fn parts_answer<R: Threads + Sync>(
     ensures { IfOk result (λ answer. (whole : _) → AreParts opening.now.rows (rows_in_each merged.now.parts.items) whole → Holds answer (printed_state merged.now.executed whole)) }
 {
     let list = list_whole(rt, alloc, opening, &merged.parts)?;
-    let answer = listed_answer(alloc, &merged.executed, &list)?;
+    let answer = listed_answer(rt, alloc, &merged.executed, &list)?;
     Ok(answer)
 }
 

@@ -1,9 +1,8 @@
 //! Text that is read in blocks, each while the lines of the one before are parsed.
-ghost use Rattle.std.specs.Prelude.{◌≡◌, ◌++◌, List, ℕ, IfOk, IfErr, OnOk};
+ghost use Rattle.std.specs.Prelude.{◌≡◌, IfOk, IfErr, OnOk};
 ghost use Rattle.std.specs.Thread.{IsSync};
-ghost use Rattle.parallel_reading.specs.Coming.{HasCome};
-ghost use Rattle.commands.specs.Edge.{input_of, HasReadBlock, ReadFault};
-ghost use Rattle.commands.specs.Texts.{HasAllCome};
+ghost use Rattle.commands.specs.Edge.{input_of, BlockFault, HasReadBlock, ReadFault};
+ghost use Rattle.commands.specs.Texts.{HasAllCome, IsFed};
 
 use crate::edge::{RunFault, Source};
 use crate::reading::MOST_READS;
@@ -20,7 +19,7 @@ const BLOCK_READS: usize = 256;
 fn read_block<S: Source>(source: &mut S, block: &mut Vec<u8>) -> Result<bool, RunFault>
     ensures read { IfOk result (HasReadBlock (S.left source.old) (S.left source.new) block.new.items) }
     ensures calm { OnOk result (S.failed source.new ≡ S.failed source.old) }
-    ensures fault { IfErr result (ReadFault (input_of S.left S.failed source.old) (input_of S.left S.failed source.new)) }
+    ensures fault { IfErr result (BlockFault (input_of S.left S.failed source.old) (input_of S.left S.failed source.new)) }
 {
     block.clear();
     let mut piece = [0u8; 65_536];
@@ -43,29 +42,30 @@ fn take_and_read<S: Source + Send, R: Threads + Sync>(
     rt: &R,
     alloc: Global,
     workers: u8,
-    reader: &mut BundleReader,
+    reader: BundleReader,
     block: &[u8],
     source: &mut S,
     next: &mut Vec<u8>,
-) -> Result<bool, RunFault>
-    ensures taken { (bytes : List ℕ) → HasCome reader.old bytes → HasCome reader.new (bytes ++ block.now) }
-    ensures read { IfOk result (HasReadBlock (S.left source.old) (S.left source.new) next.new.items) }
-    ensures calm { OnOk result (S.failed source.new ≡ S.failed source.old) }
-    ensures fault { IfErr result (ReadFault (input_of S.left S.failed source.old) (input_of S.left S.failed source.new)) }
+) -> (BundleReader, Result<bool, RunFault>)
+    ensures taken { IsFed reader result.0 block.now }
+    ensures read { IfOk result.1 (HasReadBlock (S.left source.old) (S.left source.new) next.new.items) }
+    ensures calm { OnOk result.1 (S.failed source.new ≡ S.failed source.old) }
+    ensures fault { IfErr result.1 (BlockFault (input_of S.left S.failed source.old) (input_of S.left S.failed source.new)) }
 {
+    let mut reader = reader;
     let (read, ()) = join_mut(
         rt,
         &mut || -> Result<bool, RunFault>
             ensures read { IfOk result (HasReadBlock (S.left source.entry.now) (S.left source.exit.now) next.exit.now.items) }
             ensures calm { OnOk result (S.failed source.exit.now ≡ S.failed source.entry.now) }
-            ensures fault { IfErr result (ReadFault (input_of S.left S.failed source.entry.now) (input_of S.left S.failed source.exit.now)) }
+            ensures fault { IfErr result (BlockFault (input_of S.left S.failed source.entry.now) (input_of S.left S.failed source.exit.now)) }
         { read_block(source, next) },
         &mut ||
             requires { IsSync R.row }
-            ensures { (bytes : List ℕ) → HasCome reader.entry.now bytes → HasCome reader.exit.now (bytes ++ block.entry.now) }
-        { feed_beside(rt, alloc, reader, block, workers) },
+            ensures { IsFed reader.entry reader.exit block.entry.now }
+        { feed_beside(rt, alloc, &mut reader, block, workers) },
     );
-    read
+    (reader, read)
 }
 
 /// A reader of bundles after all bytes that a source has left. They are read in blocks, each while threads parse the lines of the one
@@ -89,7 +89,12 @@ pub(crate) fn read_beside<S: Source + Send, R: Threads + Sync>(
             feed_beside(rt, alloc, &mut reader, &block, workers);
             return Ok(reader);
         }
-        is_last = take_and_read(rt, alloc, workers, &mut reader, &block, source, &mut next)?;
+        let (taken, read) = take_and_read(rt, alloc, workers, reader, &block, source, &mut next);
+        reader = taken;
+        match read {
+            Ok(last) => is_last = last,
+            Err(fault) => return Err(fault),
+        }
         mem::swap(&mut block, &mut next);
     }
     Err(RunFault::Read)

@@ -35,6 +35,7 @@ mod import_fault;
 mod list_command;
 mod parallel;
 mod position_command;
+mod printing;
 mod reading;
 mod request;
 mod set_command;

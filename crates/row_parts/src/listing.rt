@@ -12,6 +12,12 @@ use std::alloc::{AllocError, Global};
 use std::thread;
 use std::thread::Threads;
 
+/// Rows lent with their keys.
+#[derive(Drop)]
+struct Listed<'a> {
+    entries: Vec<(&'a Key, &'a Row)>,
+}
+
 /// Whether rows have this row under this key.
 fn has_row(rows: &Rows, key: &Key, row: &Row) -> bool
     ensures { result ≡ same_row (map.get rows.now.rows key.now) (Some row.now) }
@@ -24,7 +30,7 @@ fn has_row(rows: &Rows, key: &Key, row: &Row) -> bool
 
 /// Whether each of the parts has this row under this key.
 fn have_row(parts: &[Rows], key: &Key, row: &Row) -> bool
-    ensures { result ≡ list_all (λ p. same_row (map.get p.rows key.now) (Some row.now)) parts.now }
+    ensures { result ≡ list_all (λ rows. same_row (map.get rows key.now) (Some row.now)) (rows_in_each parts.now) }
 {
     for part in parts {
         if !has_row(part, key, row) {
@@ -76,19 +82,20 @@ fn list_at<'a>(
     opening: &'a Rows,
     parts: &'a [Rows],
     place: usize,
-) -> Result<Vec<(&'a Key, &'a Row)>, AllocError>
-    ensures { IfOk result (λ list. all_shown list.items ≡ entries_at opening.now.rows (rows_in_each parts.now) place) }
+) -> Result<Listed<'a>, AllocError>
+    ensures { IfOk result (λ list. all_shown list.entries.items ≡ entries_at opening.now.rows (rows_in_each parts.now) place) }
 {
-    match parts.get(place) {
-        Some(part) => list_changed(alloc, opening, part),
-        None => list_kept(alloc, opening, parts),
-    }
+    let entries = match parts.get(place) {
+        Some(part) => list_changed(alloc, opening, part)?,
+        None => list_kept(alloc, opening, parts)?,
+    };
+    Ok(Listed { entries })
 }
 
 /// Lists one after another, unless one of them could not be made or memory is refused.
 fn gather<'a>(
     alloc: Global,
-    lists: &[Result<Vec<(&'a Key, &'a Row)>, AllocError>],
+    lists: &[Result<Listed<'a>, AllocError>],
 ) -> Result<Vec<(&'a Key, &'a Row)>, AllocError>
     ensures { IfOk result (λ all. (entries : _) → AreEntriesAt entries lists.now → all_shown all.items ≡ entries_before entries (length lists.now)) }
 {
@@ -97,7 +104,7 @@ fn gather<'a>(
         let Ok(list) = &lists[place] else {
             return Err(AllocError);
         };
-        all.extend_from_slice(list)?;
+        all.extend_from_slice(&list.entries)?;
     }
     Ok(all)
 }
@@ -116,8 +123,8 @@ pub fn list_whole<'a, R: Threads + Sync>(
         rt,
         alloc,
         parts.len() + 1,
-        &|place: usize| -> Result<Vec<(&'a Key, &'a Row)>, AllocError>
-            ensures { IfOk result (λ list. all_shown list.items ≡ entries_at opening.entry.now.rows (rows_in_each parts.entry.now) place) }
+        &|place: usize| -> Result<Listed<'_>, AllocError>
+            ensures { IfOk result (λ list. all_shown list.entries.items ≡ entries_at opening.entry.now.rows (rows_in_each parts.entry.now) place) }
         { list_at(alloc, opening, parts, place) },
     )?;
     let mut list = gather(alloc, &lists)?;
