@@ -18,7 +18,9 @@ pub fn cut_block(text: &[u8], size: usize) -> (&[u8], &[u8])
     text.split_at(size)
 }
 
-/// The parts of a text, of so many bytes each but the last.
+/// The parts of a text, of so many bytes each but the last, and behind them an empty one: `map_indices` makes its last call on the
+/// calling thread, which then waits for the others at once. (A thread that was just started may stand behind the thread that started it
+/// until that one waits, though other processors are idle.)
 fn parts_of(alloc: Global, text: &[u8], size: usize) -> Result<Vec<&[u8]>, AllocError>
     requires { 0 < size }
     ensures { IfOk result (λ parts. concat (map (λ p. p.now) parts.items) ≡ text.now) }
@@ -30,7 +32,9 @@ fn parts_of(alloc: Global, text: &[u8], size: usize) -> Result<Vec<&[u8]>, Alloc
         parts.push(part)?;
         left = more;
     }
-    parts.push(left)?;
+    let (last, none) = left.split_at(left.len());
+    parts.push(last)?;
+    parts.push(none)?;
     Ok(parts)
 }
 

@@ -17,6 +17,7 @@ loop-turn-init g c =
       last = read.last;
       many = omega arith;
       more = λ goes. let some = read.some goes in omega (some, arith);
+      some = omega arith;
       calm = c.in_ok-is_last.ensures.calm;
     }
 
@@ -52,5 +53,6 @@ loop-turn-preserved g c =
       last = read.last;
       many = as_long all c.swap.new.x.items _ more;
       more = λ goes. longer all c.swap.new.x.items _ more (subst (λ (t : List ℕ). 0 < length t) (sym same) (read.some goes));
+      some = c.more_reads-reads.ensures;
       calm = at_ok _ c.in-Ok.is after.ensures.calm ∙ so_far.calm;
     }
