@@ -7,8 +7,7 @@ ghost use Rattle.world.specs.declared.verdict.Verdict.TheVariants.{Sound};
 ghost use Rattle.world.specs.Audit.{all_entries, first_contents, verdict, verdict_of_keys, world_of};
 ghost use Rattle.audit.specs.Contents.{in_order};
 ghost use Rattle.audit.specs.Faults.{IsAuditFault};
-ghost use Rattle.audit.specs.Firsts.{AreFirsts};
-ghost use Rattle.audit.specs.Ordered.{AreInOrder};
+ghost use Rattle.audit.specs.Firsts.{AreFirstsIf, BeginInOrder};
 ghost use Rattle.audit.specs.Worlds.{AllFit};
 
 use crate::finding::{audit, audit_keys, keep_rules};
@@ -31,15 +30,19 @@ fn have_previous(opened: &GtidSet, journals: &[Journal]) -> bool
         .all(|journal| journal.previous().is_subset(opened))
 }
 
-/// Whether journals begin within the opening set and are found to be in order.
-fn begin_in_order(alloc: Global, opened: &GtidSet, journals: &[Journal]) -> Result<bool, AllocError>
-    ensures within { IfOk result (λ yes. yes ≡ true → list_all (λ j. set.is_subset j.previous opened.now) journals.now ≡ true) }
-    ensures ordered { IfOk result (λ yes. yes ≡ true → AreInOrder opened.now journals.now) }
+/// Whether journals begin within the opening set and are found to bring the numbers of each source one after another.
+pub fn begin_in_order(
+    alloc: Global,
+    opened: &GtidSet,
+    journals: &[Journal],
+) -> Result<bool, AllocError>
+    ensures { IfOk result (λ yes. yes ≡ true → BeginInOrder opened.now journals.now) }
 {
     if !have_previous(opened, journals) {
         return Ok(false);
     }
-    are_in_order(alloc, opened, journals)
+    let ordered = are_in_order(alloc, opened, journals)?;
+    Ok(ordered)
 }
 
 /// Whether the keys of journals are found to be sound by one pass over them.
@@ -97,22 +100,19 @@ pub fn audit_keys_of(
     audit_keys_with_world(alloc, opened, rows, journals)
 }
 
-/// Whether journals begin within the opening set, are in order and agree with one another. Where they do, the first entry of each GTID
-/// beyond the opening set is put into a list that is empty, in the order of GTIDs: all that their world has. Their keys are sound then,
-/// unless two sources touch one (`share_no_key`).
-pub fn list_firsts<'a>(
+/// Whether journals are found to agree with one another. Where they do, the first entry of each GTID beyond the opening set is put into
+/// a list that is empty, in the order of GTIDs. If the journals begin in order too (`begin_in_order`), that is all that their world has,
+/// and their keys are sound unless two sources touch one (`share_no_key`).
+pub fn list_agreeing<'a>(
     alloc: Global,
     list: &mut Vec<&'a Entry>,
     opened: &GtidSet,
     journals: &'a [Journal],
 ) -> Result<bool, AllocError>
     requires { list.old.items ≡ [] }
-    ensures { IfOk result (λ yes. yes ≡ true → AreFirsts opened.now journals.now (map (λ e. e.now) list.new.items)) }
+    ensures { IfOk result (λ yes. yes ≡ true → AreFirstsIf opened.now journals.now (map (λ e. e.now) list.new.items)) }
 {
     keep_rules(journals);
-    if !begin_in_order(alloc, opened, journals)? {
-        return Ok(false);
-    }
     if !list_equal(alloc, list, opened, journals)? {
         return Ok(false);
     }
@@ -131,8 +131,7 @@ fn verdict_listed<'a>(
 ) -> Result<Option<Verdict>, AllocError>
     requires empty { list.old.items ≡ [] }
     requires fitting { AllFit rows.now.schema (in_order (first_contents opened.now (all_entries journals.now))) }
-    requires within { list_all (λ j. set.is_subset j.previous opened.now) journals.now ≡ true }
-    requires ordered { AreInOrder opened.now journals.now }
+    requires begun { BeginInOrder opened.now journals.now }
     ensures { IfOk result (λ found. IfSome found (λ v. v ≡ verdict (world_of rows.now.schema opened.now rows.now.rows journals.now) journals.now)) }
 {
     keep_rules(journals);

@@ -21,8 +21,8 @@
 //! transactions is found in a journal, for which it marks them, and over a list of what the journals bring where not.
 //! That no key is shared is found by marks (`marks`): a hash of the words of a key's values, which equal keys share, kept with its source
 //! (`owners`), in slots of the marks' lowest bits. Only where two sources touch one mark are keys made and looked for.
-//! `list_firsts` gives callers the list of first entries without a look at keys, and `share_no_key` whether two sources touch one: what
-//! `source_shares` does at the same time as it applies them.
+//! `list_agreeing` gives callers the list of first entries without a look at keys, `begin_in_order` whether it is all that the journals'
+//! world has, and `share_no_key` whether two sources touch a key: what `source_shares` asks on several threads at the same time.
 //!
 //! `audit_of` and `audit_keys_of` go over journals that are in order once (`gathering`): each first entry of a GTID touches its marks, and
 //! each further one is compared with the first, which is looked for in the run of its source by its number. `audit_of` then puts the runs
@@ -63,7 +63,7 @@ mod standing;
 mod touches;
 mod unequal;
 
-pub use direct::{audit_keys_of, audit_of, list_firsts};
+pub use direct::{audit_keys_of, audit_of, begin_in_order, list_agreeing};
 pub use finding::{audit, audit_gtids, audit_keys, keep_rules};
 pub use laws::faults_are_all;
 pub use listing::{AllFaults, audit_all};

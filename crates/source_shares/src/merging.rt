@@ -1,9 +1,10 @@
 //! Journals merged by several threads.
-ghost use Rattle.std.specs.Prelude.{◌≡◌, ◌<◌, [], IfOk, IfSome, None, length, map};
+ghost use Rattle.std.specs.Prelude.{◌≡◌, ◌<◌, [], true, IfOk, IfSome, None, length, map};
 ghost use Rattle.std.specs.FinMap as finmap;
 ghost use Rattle.world.specs.Audit.{all_entries, first_contents};
 ghost use Rattle.world.specs.Folds.{shared_from};
 ghost use Rattle.audit.specs.Contents.{as_pair, in_order};
+ghost use Rattle.audit.specs.Firsts.{AreFirsts, AreFirstsIf, BeginInOrder};
 ghost use Rattle.audit.specs.Worlds.{AllFit};
 ghost use Rattle.source_shares.specs.Merging.{AreMerged};
 ghost use Rattle.source_shares.specs.Shares.{AreApplied, IsApplied};
@@ -12,14 +13,14 @@ use crate::applying::apply_share;
 use crate::executing::union_of;
 use crate::gathering::all_parts;
 use crate::sharing::{count_changes, put_into_shares};
-use audit::{keep_rules, list_firsts, share_no_key};
+use audit::{begin_in_order, keep_rules, list_agreeing, share_no_key};
 use gtid_set::GtidSet;
 use gtid_text::SourceId;
 use journal::{Entry, Journal};
 use rows::Rows;
 use std::alloc::{AllocError, Global};
 use std::thread;
-use std::thread::Threads;
+use std::thread::{Threads, join_mut};
 
 /// What journals together result in: the executed set, and parts of the rows.
 #[derive(Drop)]
@@ -91,6 +92,31 @@ fn is_worth_copies(rows: &Rows, counts: &[(SourceId, usize)]) -> bool {
     changes / 4 >= rows.count_keys()
 }
 
+/// Whether journals agree with one another and begin in order, which is found at the same time. Where they do, the first entry of each GTID
+/// beyond the opening set is put into a list that is empty.
+fn list_firsts<'a, R: Threads + Sync>(
+    rt: &R,
+    alloc: Global,
+    list: &mut Vec<&'a Entry>,
+    opened: &GtidSet,
+    journals: &'a [Journal],
+) -> bool
+    requires { list.old.items ≡ [] }
+    ensures { result ≡ true → AreFirsts opened.now journals.now (map (λ e. e.now) list.new.items) }
+{
+    let (ordered, listed) = join_mut(
+        rt,
+        &mut || -> Result<bool, AllocError>
+            ensures { IfOk result (λ yes. yes ≡ true → BeginInOrder opened.entry.now journals.entry.now) }
+        { begin_in_order(alloc, opened, journals) },
+        &mut || -> Result<bool, AllocError>
+            requires { list.now.items ≡ [] }
+            ensures { IfOk result (λ yes. yes ≡ true → AreFirstsIf opened.entry.now journals.entry.now (map (λ e. e.now) list.exit.now.items)) }
+        { list_agreeing(alloc, list, opened, journals) },
+    );
+    matches!(ordered, Ok(true)) && matches!(listed, Ok(true))
+}
+
 /// What `merge_by_shares` gives, where a pass over the journals lists what they bring: the list is empty at first.
 fn merge_listed<'a, R: Threads + Sync>(
     rt: &R,
@@ -107,9 +133,9 @@ fn merge_listed<'a, R: Threads + Sync>(
     ensures { IfSome result (λ merged. AreMerged opened.now rows.now journals.now merged.executed merged.parts.items) }
 {
     keep_rules(journals);
-    let Ok(true) = list_firsts(alloc, list, opened, journals) else {
+    if !list_firsts(rt, alloc, list, opened, journals) {
         return None;
-    };
+    }
     let Ok(mut counts) = count_changes(alloc, list) else {
         return None;
     };

@@ -27,4 +27,4 @@ returns c =
     let agree = subst (λ (s : List Table). AgreeApart opened s journals) c.schema.ensures.value (c.in_ok-list_apart.ensures.agree c.if-not-branch.false) in
     c.in_ok-found.ensures
     ∙ ap (λ (xs : List (Bor Entry)). unwrap_or (option_map (λ fault. DoesNotApply fault.0 fault.1) (first_fault schema (map as_pair (map (λ e. e.now) xs)) rows)) Sound) c.deref-2.ensures.value
-    ∙ verdict_applied schema opened rows journals c.keep_rules.ensures c.requires.within c.requires.ordered agree (map (λ (x : Bor Entry). x.now) items) is
+    ∙ verdict_applied schema opened rows journals c.keep_rules.ensures c.requires.begun.within c.requires.begun.ordered agree (map (λ (x : Bor Entry). x.now) items) is

@@ -14,7 +14,7 @@ returns g c =
     let journals = c.args.journals.now in
     let are = c.keep_rules.ensures in
     let list = map (λ (x : Bor Entry). x.now) c.list_firsts.new.list.items in
-    let firsts = c.in-Ok-true.ensures c.in-Ok-true.field-0-test in
+    let firsts = c.list_firsts.ensures c.if-not-list_firsts.false in
     let lent : c.deref-3.result.now ≡ c.list_firsts.new.list.items = c.deref-3.ensures.value in
     let said = said_by start opened journals are list firsts
     (subst (λ (es : List (Bor Entry)). shared_from start.schema finmap.empty (map as_pair (map (λ (x : Bor Entry). x.now) es)) ≡ None) lent c.in_ok-found.ensures.apart) in
