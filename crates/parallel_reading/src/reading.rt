@@ -1,6 +1,7 @@
 //! A reader of bundles that is fed with parsed lines.
-ghost use Rattle.std.specs.Prelude.{◌≡◌, ◌++◌, ◌≤◌, ℕ, List, None, IfOk, IfErr};
+ghost use Rattle.std.specs.Prelude.{◌≡◌, ◌++◌, ◌<◌, ◌≤◌, ℕ, List, None, IfOk, IfErr};
 ghost use Rattle.std.specs.List.{concat};
+ghost use Rattle.std.specs.Thread.{IsSync};
 ghost use Rattle.txn_journal.specs.BundleStates.{BundleValue};
 ghost use Rattle.txn_journal.specs.BundleText.{WritesBundle};
 ghost use Rattle.txn_journal.specs.BundleRefused.{RefusesBundle};
@@ -14,11 +15,25 @@ use std::thread::Threads;
 use std::{mem, thread};
 use txn_journal::{Bundle, BundleReader, JournalFault, ParsedLines};
 
-/// How many bytes a thread parses at a time.
+/// How many bytes a thread parses at a time, at most.
 const PART: usize = 1_048_576;
+
+/// How many it parses at least, unless that is all.
+const LEAST_PART: usize = 262_144;
 
 /// So many threads parse lines faster than one takes them.
 const MOST_PARSERS: usize = 4;
+
+/// How many bytes of so many that are left a thread parses next. The parts become smaller towards the end, for nothing is parsed while
+/// the last are taken.
+fn part_size(left: usize, parsers: usize) -> usize
+    requires some { 0 < parsers }
+    requires few { parsers ≤ 4 }
+    ensures some { 0 < result }
+    ensures most { result ≤ 1048576 }
+{
+    (left / (2 * parsers)).clamp(LEAST_PART, PART)
+}
 
 /// Takes parts in their order.
 fn take_all(alloc: Global, reader: &mut BundleReader, parsed: Vec<ParsedLines<'_>>)
@@ -47,7 +62,7 @@ fn take_block(
     }
 }
 
-/// Takes a block, while the lines of the next one are parsed.
+/// Takes a block, while the lines of the next one are parsed, in parts of so many bytes.
 fn take_and_parse<'a, R: Threads + Sync>(
     rt: &R,
     alloc: Global,
@@ -55,8 +70,10 @@ fn take_and_parse<'a, R: Threads + Sync>(
     block: &'a [u8],
     parsed: Result<Vec<ParsedLines<'a>>, AllocError>,
     next: &'a [u8],
+    part: usize,
 ) -> (BundleReader, Result<Vec<ParsedLines<'a>>, AllocError>)
-    requires { IfOk parsed (λ parsed. concat parsed.items ≡ block.now) }
+    requires block { IfOk parsed (λ parsed. concat parsed.items ≡ block.now) }
+    requires part { 0 < part }
     ensures taken { (bytes : List ℕ) → HasCome reader bytes → HasCome result.0 (bytes ++ block.now) }
     ensures parsed { IfOk result.1 (λ parsed. concat parsed.items ≡ next.now) }
 {
@@ -70,7 +87,10 @@ fn take_and_parse<'a, R: Threads + Sync>(
             take_block(alloc, &mut reader, block, parsed);
             reader
         },
-        || parse_block(rt, alloc, next, PART),
+        || -> Result<Vec<ParsedLines<'_>>, AllocError>
+            requires { IsSync R.row × (0 < part) }
+            ensures { IfOk result (λ parsed. concat parsed.items ≡ next.entry.now) }
+        { parse_block(rt, alloc, next, part) },
     )
 }
 
@@ -87,13 +107,14 @@ fn fed_beside<R: Threads + Sync>(
     let parsers = usize::from(workers)
         .saturating_sub(1)
         .clamp(1, MOST_PARSERS);
-    let size = PART * parsers;
     let mut reader = reader;
-    let (mut block, mut left) = cut_block(piece, size);
-    let mut parsed = parse_block(rt, alloc, block, PART);
+    let part = part_size(piece.len(), parsers);
+    let (mut block, mut left) = cut_block(piece, part * parsers);
+    let mut parsed = parse_block(rt, alloc, block, part);
     'reading: while !left.is_empty() {
-        let (next, after) = cut_block(left, size);
-        let (taken, ahead) = take_and_parse(rt, alloc, reader, block, parsed, next);
+        let part = part_size(left.len(), parsers);
+        let (next, after) = cut_block(left, part * parsers);
+        let (taken, ahead) = take_and_parse(rt, alloc, reader, block, parsed, next, part);
         reader = taken;
         parsed = ahead;
         block = next;
