@@ -1,6 +1,6 @@
 -- The rows of shares are parts of those of all journals together.
 use Rattle.std.proofs.Common.{map, ◌≡◌, ℕ, zero, suc, ◌<◌, ◌==◌, Bool, true, false, cond, inl, inr, List, [], ◌∷◌, length, Option, Some, None, Ok, refl, sym, ap, subst, ◌∙◌, arith}
-use Rattle.std.specs.Prelude.{slice_get}
+use Rattle.std.specs.Prelude.{IfSome, slice_get}
 use Rattle.std.specs.List.{filter, AllByRecursion}
 use Rattle.std.specs.Option.{unwrap_or}
 use Rattle.std.specs.FinMap as finmap
@@ -39,6 +39,11 @@ use Rattle.audit.specs.Firsts.{AreFirsts}
 use Rattle.audit.proofs.Made.{pairs_of}
 use Rattle.source_shares.specs.Merging.{AreMerged}
 use Rattle.source_shares.specs.Shares.{AreApplied, AreBelow, is_in_share, share_in}
+
+-- ---- options
+
+pub at_some : {A : Type 0} (P : A → Type 0) {o : Option A} {x : A} → o ≡ Some x → IfSome o P → P x
+at_some P e h = subst (λ o. IfSome o P) e h
 
 -- ---- lists
 

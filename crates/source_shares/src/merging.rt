@@ -6,6 +6,7 @@ ghost use Rattle.world.specs.Folds.{shared_from};
 ghost use Rattle.audit.specs.Contents.{as_pair, in_order};
 ghost use Rattle.audit.specs.Firsts.{AreFirsts, AreFirstsIf, BeginInOrder};
 ghost use Rattle.audit.specs.Worlds.{AllFit};
+ghost use Rattle.ordered_replicas.specs.Deciding.{all_of};
 ghost use Rattle.source_shares.specs.Merging.{AreMerged};
 ghost use Rattle.source_shares.specs.Shares.{AreApplied, IsApplied};
 
@@ -117,6 +118,32 @@ fn list_firsts<'a, R: Threads + Sync>(
     matches!(ordered, Ok(true)) && matches!(listed, Ok(true))
 }
 
+/// The executed set of all journals, and the rows of each share, where no two sources touch a key: both are found at the same time.
+fn apply_beside<R: Threads + Sync>(
+    rt: &R,
+    alloc: Global,
+    opened: &GtidSet,
+    journals: &[Journal],
+    opening: &Rows,
+    entries: &[&Entry],
+    shares: &[(SourceId, usize)],
+    count: usize,
+) -> (Option<GtidSet>, Option<Vec<Option<Rows>>>)
+    requires { AllFit opening.now.schema (map (λ e. e.now) entries.now) }
+    ensures executed { IfSome result.0 (λ known. known ≡ all_of opened.now journals.now) }
+    ensures count { IfSome result.1 (λ parts. length parts.items ≡ count) }
+    ensures applied { IfSome result.1 (λ parts. AreApplied opening.now shares.now (map (λ e. e.now) entries.now) parts.items) }
+    ensures apart { IfSome result.1 (λ parts. shared_from opening.now.schema finmap.empty (map as_pair (map (λ e. e.now) entries.now)) ≡ None) }
+{
+    thread::join(
+        rt,
+        || union_of(alloc, opened, journals),
+        ||
+            requires { AllFit opening.now.schema (map (λ e. e.now) entries.now) }
+        { apply_apart(rt, alloc, opening, entries, shares, count) },
+    )
+}
+
 /// What `merge_by_shares` gives, where a pass over the journals lists what they bring: the list is empty at first.
 fn merge_listed<'a, R: Threads + Sync>(
     rt: &R,
@@ -146,9 +173,10 @@ fn merge_listed<'a, R: Threads + Sync>(
     let Ok(shares) = put_into_shares(alloc, &mut counts, count) else {
         return None;
     };
-    let found = apply_apart(rt, alloc, rows, list, &shares, count)?;
+    let (executed, found) = apply_beside(rt, alloc, opened, journals, rows, list, &shares, count);
+    let executed = executed?;
+    let found = found?;
     let parts = all_parts(alloc, found)?;
-    let executed = union_of(alloc, opened, journals)?;
     Some(Merged { executed, parts })
 }
 
