@@ -23,3 +23,4 @@ pub mod Refusals
 pub mod MarkLemmas
 pub mod Gatherings
 pub mod Listings
+pub mod Owning

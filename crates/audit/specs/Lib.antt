@@ -10,5 +10,6 @@ pub mod OtherUnequal
 pub mod OtherGaps
 pub mod OtherRefusals
 pub mod Marks
+pub mod Owned
 pub mod Gathering
 pub mod Firsts

@@ -1,5 +1,7 @@
-//! What is listed after a verdict is all there is. The function's contract is a law, and its body is empty.
+//! Laws: what is listed after a verdict is all there is, and no sources share a key whose marks are of one source each. A function's
+//! contract is a law, and its body is empty.
 ghost use Rattle.audit.specs.Others.{FaultsAreAll};
+ghost use Rattle.audit.specs.Owned.{PartsAreApart};
 
 /// After the verdict is listed each other GTID under which a journal has another transaction than the world,
 /// each other journal that begins after the opening set, each other missing GTID, each other shared key,
@@ -7,4 +9,9 @@ ghost use Rattle.audit.specs.Others.{FaultsAreAll};
 /// the verdict, each other source of which a transaction does not apply, and nothing else.
 pub fn faults_are_all()
     ensures { FaultsAreAll }
+{}
+
+/// Where in each part of the marks (`are_own`) no mark that entries touch (`touches_in`) has two sources, no two sources touch a key.
+pub fn parts_are_apart()
+    ensures { PartsAreApart }
 {}

@@ -22,7 +22,9 @@
 //! That no key is shared is found by marks (`marks`): a hash of the words of a key's values, which equal keys share, kept with its source
 //! (`owners`), in slots of the marks' lowest bits. Only where two sources touch one mark are keys made and looked for.
 //! `list_agreeing` gives callers the list of first entries without a look at keys, `begin_in_order` whether it is all that the journals'
-//! world has, and `share_no_key` whether two sources touch a key: what `source_shares` asks on several threads at the same time.
+//! world has, and `share_no_key` whether two sources touch a key: what `source_shares` asks on several threads at the same time. Several
+//! threads find the last so: each lists what some of the entries touch (`touches_in`), and then each looks whether the marks of one part
+//! have one source each (`are_own`). The law is `parts_are_apart`.
 //!
 //! `audit_of` and `audit_keys_of` go over journals that are in order once (`gathering`): each first entry of a GTID touches its marks, and
 //! each further one is compared with the first, which is looked for in the run of its source by its number. `audit_of` then puts the runs
@@ -55,6 +57,7 @@ mod other_refusals;
 mod other_unequal;
 mod owners;
 mod pairs;
+mod parted;
 mod purged;
 mod shared;
 mod skipped;
@@ -65,7 +68,8 @@ mod unequal;
 
 pub use direct::{audit_keys_of, audit_of, begin_in_order, list_agreeing};
 pub use finding::{audit, audit_gtids, audit_keys, keep_rules};
-pub use laws::faults_are_all;
+pub use laws::{faults_are_all, parts_are_apart};
 pub use listing::{AllFaults, audit_all};
+pub use parted::{PARTS, Touch, are_own, touches_in};
 pub use shared::share_no_key;
 pub use sources::{World, WorldFault, world_of, world_of_fitting};

@@ -50,7 +50,7 @@ fn touch_rest(
     }
 }
 
-fn is_none(source: SourceId) -> bool
+pub(crate) fn is_none(source: SourceId) -> bool
     ensures { result ≡ (source == 0) }
 {
     source.bits() == 0
@@ -79,7 +79,7 @@ impl Owners {
     }
 
     /// A source touches a mark; whether no other source touched it before.
-    fn touch(&mut self, mark: u64, source: SourceId) -> Result<bool, AllocError>
+    pub(crate) fn touch(&mut self, mark: u64, source: SourceId) -> Result<bool, AllocError>
         requires { (source == 0) ≡ false }
         ensures { IfOk result (λ own. own ≡ true → TouchesMarks (owner_of self.old) (mark ∷ []) source (owner_of self.new)) }
     {

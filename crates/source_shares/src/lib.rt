@@ -8,13 +8,15 @@
 //!
 //! How it goes: one pass lists the first entry of each GTID (`audit::list_agreeing`), while another thread tests that the journals begin in
 //! order (`audit::begin_in_order`). The sources are then put into as many shares as there are threads, and each thread applies one share to
-//! a copy of the opening rows, while one looks for a key of two sources (`audit::share_no_key`). Since sources share no key, the shares
-//! change different keys; that their rows are parts of the rows of all is a law of `source_history` (`shares_are_parts`). Nothing is joined:
-//! `row_parts` lists the rows of all from the parts. A thread that can't be started leaves its work to the caller's.
+//! a copy of the opening rows, while others look for a key of two sources (`apart`): four list the marks of what parts of the entries
+//! touch, and then each of four looks at one part of the marks. Since sources share no key, the shares change different keys; that their
+//! rows are parts of the rows of all is a law of `source_history` (`shares_are_parts`). Nothing is joined: `row_parts` lists the rows of all
+//! from the parts. A thread that can't be started leaves its work to the caller's.
 //!
 //! Not proved: speed, that shares are of one size, and that a thread runs.
 #![tactic(auto)]
 
+mod apart;
 mod applying;
 mod executing;
 mod gathering;

@@ -1,5 +1,6 @@
 //! Journals merged by several threads.
-ghost use Rattle.std.specs.Prelude.{◌≡◌, ◌<◌, [], true, IfOk, IfSome, None, length, map};
+ghost use Rattle.std.specs.Prelude.{◌≡◌, ◌<◌, [], IfOk, IfSome, None, length, map, true};
+ghost use Rattle.std.specs.Thread.{IsSync};
 ghost use Rattle.std.specs.FinMap as finmap;
 ghost use Rattle.world.specs.Audit.{all_entries, first_contents};
 ghost use Rattle.world.specs.Folds.{shared_from};
@@ -10,11 +11,12 @@ ghost use Rattle.ordered_replicas.specs.Deciding.{all_of};
 ghost use Rattle.source_shares.specs.Merging.{AreMerged};
 ghost use Rattle.source_shares.specs.Shares.{AreApplied, IsApplied};
 
+use crate::apart::share_no_key_beside;
 use crate::applying::apply_share;
 use crate::executing::union_of;
 use crate::gathering::all_parts;
 use crate::sharing::{count_changes, put_into_shares};
-use audit::{begin_in_order, keep_rules, list_agreeing, share_no_key};
+use audit::{begin_in_order, keep_rules, list_agreeing};
 use gtid_set::GtidSet;
 use gtid_text::SourceId;
 use journal::{Entry, Journal};
@@ -70,7 +72,10 @@ fn apply_apart<R: Threads + Sync>(
 {
     let (apart, parts) = thread::join(
         rt,
-        || share_no_key(alloc, opening.schema(), entries),
+        || -> Result<bool, AllocError>
+            requires { IsSync R.row }
+            ensures { IfOk result (λ yes. yes ≡ true → shared_from opening.entry.now.schema finmap.empty (map as_pair (map (λ e. e.now) entries.entry.now)) ≡ None) }
+        { share_no_key_beside(rt, alloc, opening.schema(), entries) },
         ||
             requires { AllFit opening.now.schema (map (λ e. e.now) entries.now) }
         { apply_shares(rt, alloc, opening, entries, shares, count) },
