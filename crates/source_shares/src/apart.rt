@@ -17,6 +17,12 @@ use std::thread::{Threads, join};
 /// Fewer entries are looked at by one thread.
 const LEAST_ENTRIES: usize = 4_096;
 
+/// Entries with more changes on average are looked at by one thread: lists of all that they touch would take memory like the bundle.
+const MOST_CHANGES: usize = 4;
+
+/// So many entries are looked at for that average.
+const SAMPLE: usize = 1_024;
+
 /// So often the entries are halved: four threads list what they touch.
 const HALVINGS: u8 = 2;
 
@@ -99,7 +105,17 @@ fn are_parts_own<R: Threads + Sync>(
     Ok(yes)
 }
 
-/// What `share_no_key` finds, by several threads where there are many entries: where it is true, no two sources touch a key.
+/// Whether the first of these entries have few changes each. (A guess.)
+fn are_narrow(entries: &[&Entry]) -> bool {
+    let (sample, _others) = entries.split_at(entries.len().min(SAMPLE));
+    let mut changes: usize = 0;
+    for entry in sample {
+        changes = changes.saturating_add(entry.txn.changes.as_slice().len());
+    }
+    changes / MOST_CHANGES <= sample.len()
+}
+
+/// What `share_no_key` finds, by several threads where there are many entries of few changes: where it is true, no two sources touch a key.
 pub(crate) fn share_no_key_beside<R: Threads + Sync>(
     rt: &R,
     alloc: Global,
@@ -108,7 +124,7 @@ pub(crate) fn share_no_key_beside<R: Threads + Sync>(
 ) -> Result<bool, AllocError>
     ensures { IfOk result (λ yes. yes ≡ true → shared_from schema.now finmap.empty (map as_pair (map (λ e. e.now) entries.now)) ≡ None) }
 {
-    if entries.len() < LEAST_ENTRIES {
+    if entries.len() < LEAST_ENTRIES || !are_narrow(entries) {
         let yes = share_no_key(alloc, schema, entries)?;
         return Ok(yes);
     }
