@@ -197,10 +197,10 @@ module _ (world : World) (share : ℕ → ℕ) (parts : List Rows) (keys : AreKe
     some_part : (k : Key) → (get whole k ≡ get world.opening_rows k) ⊎ ((i : ℕ) × (part : Rows) × (slice_get parts i ≡ Some part) × (get part k ≡ get whole k))
     some_part k = elim (cases_Bool (is_touched_in world (λ g. true) k)) [
       | inl y ↦ (
-        let one = toucher world share k (entries world.contents) y in
-        let part = there_at parts (share one.0) (are.below one.0) in
-        inr (share one.0, part.0, part.1, (holds (share one.0) part.0 part.1).own k one.1)
-      )
+          let one = toucher world share k (entries world.contents) y in
+          let part = there_at parts (share one.0) (are.below one.0) in
+          inr (share one.0, part.0, part.1, (holds (share one.0) part.0 part.1).own k one.1)
+          )
       | inr n ↦ inl (untouched_rest world (λ g. true) whole k all n)
     ]
 
