@@ -8,6 +8,7 @@ use Rattle.txn_journal.specs.Stream.{TakesPlain}
 use Rattle.txn_journal.specs.BundleLinesSoFar.{bundle_lines_so_far}
 use Rattle.txn_journal.specs.BundleLines.{standing_after, HasCome}
 use Rattle.txn_journal.specs.BundleText.{IsBundle}
+use Rattle.txn_journal.specs.TakenEntries.{judge_all, TakesText}
 use Rattle.txn_journal.specs.BundleCauses.{HasBundleCause}
 use Rattle.txn_journal.specs.declared.fault.Cause.{Cause}
 use Rattle.txn_journal.specs.declared.lines.Version.{Version}
@@ -24,6 +25,16 @@ come_more s t line h e = record { due = h.due; lines = line ∷ h.lines; made = 
 pub come_plain : (s t : BundleStanding) (line : List ℕ) (made : Bool) → HasCome s → TakesPlain (Ok made) (judge_bundle s line) s t → HasCome t
 come_plain s t line true h e = come_more s t line h e
 come_plain s t line false h e = subst HasCome (sym e) h
+
+come_all : (s t : BundleStanding) (lines : List (List ℕ)) → HasCome s → judge_all judge_bundle s lines ≡ Ok t → HasCome t
+come_all s t [] h e = subst HasCome (ok_is s t e) h
+come_all s t (line ∷ more) h e =
+    let a = bind_ok (judge_bundle s line) (λ x. judge_all judge_bundle x more) t e in
+    come_all a.0 t more (come_more s a.0 line h a.1) a.2
+
+pub come_text : (s t : BundleStanding) (text : List ℕ) (count : ℕ) (made : Bool) → HasCome s → TakesText judge_bundle (Ok made) text count s t → HasCome t
+come_text s t text count true h e = come_all s t e.lines h e.made
+come_text s t text count false h e = subst HasCome (sym e) h
 
 -- what lines have made is sound
 come_sound : (due : Option Version) (lines : List (List ℕ)) (s : BundleStanding) → standing_after due lines ≡ Ok s → (rows : List TableRow) × IsBundleSound rows s

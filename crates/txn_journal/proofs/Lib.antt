@@ -23,6 +23,8 @@ pub mod OwnReads
 pub mod TableSteps
 pub mod InnerSteps
 pub mod ChangeSteps
+pub mod EntryTexts
+pub mod EntrySteps
 pub mod BundleSound
 pub mod BundleLaws
 pub mod BundleKept

@@ -1,20 +1,22 @@
--- The text of lines that were parsed.
+-- The text of what was parsed.
 use Rattle.std.proofs.Common.{◌≡◌, ℕ, List, [], ◌∷◌, ◌++◌, refl, sym, ap, ◌∙◌, append_assoc}
-use Rattle.txn_journal.specs.declared.parsed_lines.ParsedLine.{ParsedLine}
-use Rattle.txn_journal.specs.ParsedTexts.{lines_in}
+use Rattle.std.proofs.lemmas.List.{append-nil}
+use Rattle.txn_journal.specs.declared.parsed_lines.ParsedItem.{ParsedItem}
+use Rattle.txn_journal.specs.ParsedTexts.{item_text, text_in}
 
-lines_append : (xs ys : List ParsedLine) → lines_in (xs ++ ys) ≡ lines_in xs ++ lines_in ys
-lines_append [] ys = refl
-lines_append (x ∷ xs) ys = ap (λ (t : List ℕ). x.line.now ++ 10 ∷ t) (lines_append xs ys) ∙ sym (append_assoc x.line.now (10 ∷ lines_in xs) (lines_in ys))
+text_append : (xs ys : List ParsedItem) → text_in (xs ++ ys) ≡ text_in xs ++ text_in ys
+text_append [] ys = refl
+text_append (x ∷ xs) ys = ap (λ (t : List ℕ). item_text x ++ t) (text_append xs ys) ∙ sym (append_assoc (item_text x) (text_in xs) (text_in ys))
 
--- one line more was cut off
-pub line_cut : (ls : List ParsedLine) (l : ParsedLine) (text rest after : List ℕ) → text ≡ lines_in ls ++ rest → rest ≡ l.line.now ++ 10 ∷ after → text ≡ lines_in (ls ++ l ∷ []) ++ after
-line_cut ls l text rest after so_far parts =
+-- one item more was cut off
+pub item_cut : (xs : List ParsedItem) (x : ParsedItem) (text rest after : List ℕ) → text ≡ text_in xs ++ rest → rest ≡ item_text x ++ after → text ≡ text_in (xs ++ x ∷ []) ++ after
+item_cut xs x text rest after so_far parts =
     so_far
-    ∙ ap (λ (t : List ℕ). lines_in ls ++ t) (parts ∙ sym (append_assoc l.line.now (10 ∷ []) after))
-    ∙ sym (append_assoc (lines_in ls) (l.line.now ++ 10 ∷ []) after)
-    ∙ ap (λ (t : List ℕ). t ++ after) (sym (lines_append ls (l ∷ [])))
+    ∙ ap (λ (t : List ℕ). text_in xs ++ t) parts
+    ∙ sym (append_assoc (text_in xs) (item_text x) after)
+    ∙ ap (λ (t : List ℕ). (text_in xs ++ t) ++ after) (sym (append-nil (item_text x)))
+    ∙ ap (λ (t : List ℕ). t ++ after) (sym (text_append xs (x ∷ [])))
 
--- the first line of those that are left
-pub line_left : (left more : List ParsedLine) (l : ParsedLine) (rest : List ℕ) → left ≡ l ∷ more → lines_in left ++ rest ≡ l.line.now ++ 10 ∷ (lines_in more ++ rest)
-line_left left more l rest e = ap (λ (ls : List ParsedLine). lines_in ls ++ rest) e ∙ append_assoc l.line.now (10 ∷ lines_in more) rest
+-- the first item of those that are left
+pub item_left : (left more : List ParsedItem) (x : ParsedItem) (rest : List ℕ) → left ≡ x ∷ more → text_in left ++ rest ≡ item_text x ++ (text_in more ++ rest)
+item_left left more x rest e = ap (λ (xs : List ParsedItem). text_in xs ++ rest) e ∙ append_assoc (item_text x) (text_in more) rest

@@ -56,14 +56,23 @@ line_wrong {S} judge o s n m rest line cause goes one made next =
     ∙ ap (λ (r : Result S Cause). progress_after r (next_number n)) made
     ∙ sym (λ i. Stopped (faults.Line (next i) cause))
 
+-- a piece before what is left
+pub piece_taken : {S : Type 0} (judge : Judge S) (now then total : Progress S) (left piece after : List ℕ)
+    → left ≡ piece ++ after → feed_bytes judge now piece ≡ then → feed_bytes judge now left ≡ total → feed_bytes judge then after ≡ total
+piece_taken {S} judge now then total left piece after parts took so_far =
+    sym (ap (λ (p : Progress S). feed_bytes judge p after) took)
+    ∙ sym (eats_append judge now piece after)
+    ∙ sym (ap (feed_bytes judge now) parts)
+    ∙ so_far
+
+-- a line with its line feed, and what follows it
+line_in : (left line after : List ℕ) → left ≡ line ++ 10 ∷ after → left ≡ (line ++ 10 ∷ []) ++ after
+line_in left line after parts = parts ∙ sym (append_assoc line (10 ∷ []) after)
+
 -- a line before what is left
 pub line_taken : {S : Type 0} (judge : Judge S) (now then total : Progress S) (left line after : List ℕ)
     → left ≡ line ++ 10 ∷ after → feed_bytes judge now (line ++ 10 ∷ []) ≡ then → feed_bytes judge now left ≡ total → feed_bytes judge then after ≡ total
-line_taken {S} judge now then total left line after parts took so_far =
-    sym (ap (λ (p : Progress S). feed_bytes judge p after) took)
-    ∙ sym (eats_append judge now (line ++ 10 ∷ []) after)
-    ∙ sym (ap (feed_bytes judge now) (parts ∙ sym (append_assoc line (10 ∷ []) after)))
-    ∙ so_far
+line_taken judge now then total left line after parts = piece_taken judge now then total left (line ++ 10 ∷ []) after (line_in left line after parts)
 
 -- ---- faults that may be
 
@@ -88,41 +97,49 @@ line_fault {S} full judge f o s n rest line goes one h =
         }
 
 -- more bytes may follow
-line_in_front : {S : Type 0} (full : SetFault → S → Type 0) (judge : Judge S) (f : SetFault) (now : Progress S) (left line after : List ℕ)
-    → left ≡ line ++ 10 ∷ after → IsPieceFault full judge now (line ++ 10 ∷ []) f → IsPieceFault full judge now left f
-line_in_front {S} full judge f now left line after parts h = fault_map f (fills (full SourcesFull)) (fills (full PoolFull)) h
+piece_in_front : {S : Type 0} (full : SetFault → S → Type 0) (judge : Judge S) (f : SetFault) (now : Progress S) (left piece after : List ℕ)
+    → left ≡ piece ++ after → IsPieceFault full judge now piece f → IsPieceFault full judge now left f
+piece_in_front {S} full judge f now left piece after parts h = fault_map f (fills (full SourcesFull)) (fills (full PoolFull)) h
   where
-    fills : (large : S → Type 0) → Fills large judge now (line ++ 10 ∷ []) → Fills large judge now left
+    fills : (large : S → Type 0) → Fills large judge now piece → Fills large judge now left
     fills large k = record {
       front = k.front;
       rest = k.rest ++ after;
-      parts = parts ∙ sym (append_assoc line (10 ∷ []) after) ∙ ap (λ x. x ++ after) k.parts ∙ append_assoc k.front k.rest after;
+      parts = parts ∙ ap (λ x. x ++ after) k.parts ∙ append_assoc k.front k.rest after;
       is_full = k.is_full;
     }
 
--- a line that was taken may come before
-pub behind_line : {S : Type 0} (full : SetFault → S → Type 0) (judge : Judge S) (f : SetFault) (now then : Progress S) (left line after : List ℕ)
-    → left ≡ line ++ 10 ∷ after → feed_bytes judge now (line ++ 10 ∷ []) ≡ then → IsPieceFault full judge then after f → IsPieceFault full judge now left f
-behind_line {S} full judge f now then left line after parts took h =
+-- a piece that was taken may come before
+pub behind_piece : {S : Type 0} (full : SetFault → S → Type 0) (judge : Judge S) (f : SetFault) (now then : Progress S) (left piece after : List ℕ)
+    → left ≡ piece ++ after → feed_bytes judge now piece ≡ then → IsPieceFault full judge then after f → IsPieceFault full judge now left f
+behind_piece {S} full judge f now then left piece after parts took h =
     fault_map f (fills (full SourcesFull)) (fills (full PoolFull)) h
   where
     fills : (large : S → Type 0) → Fills large judge then after → Fills large judge now left
-    fills large k =
-        let whole = line ++ 10 ∷ [] in
-        record {
-          front = whole ++ k.front;
-          rest = k.rest;
-          parts = parts ∙ sym (append_assoc line (10 ∷ []) after) ∙ ap (λ x. whole ++ x) k.parts ∙ sym (append_assoc whole k.front k.rest);
-          is_full = subst (λ (p : Progress S). HasFull large p) (sym (eats_append judge now whole k.front ∙ ap (λ (p : Progress S). feed_bytes judge p k.front) took)) k.is_full;
-        }
+    fills large k = record {
+      front = piece ++ k.front;
+      rest = k.rest;
+      parts = parts ∙ ap (λ x. piece ++ x) k.parts ∙ sym (append_assoc piece k.front k.rest);
+      is_full = subst (λ (p : Progress S). HasFull large p) (sym (eats_append judge now piece k.front ∙ ap (λ (p : Progress S). feed_bytes judge p k.front) took)) k.is_full;
+    }
+
+-- so may a line
+pub behind_line : {S : Type 0} (full : SetFault → S → Type 0) (judge : Judge S) (f : SetFault) (now then : Progress S) (left line after : List ℕ)
+    → left ≡ line ++ 10 ∷ after → feed_bytes judge now (line ++ 10 ∷ []) ≡ then → IsPieceFault full judge then after f → IsPieceFault full judge now left f
+behind_line full judge f now then left line after parts = behind_piece full judge f now then left (line ++ 10 ∷ []) after (line_in left line after parts)
+
+pub piece_fails : {S : Type 0} (full : SetFault → S → Type 0) (judge : Judge S) (fault : JournalFault) (may : SetFault → Type 0) (now new newer total : Progress S) (left piece after : List ℕ)
+    → left ≡ piece ++ after → TakesPiece (IsPieceFault full judge now piece) (Err fault) new (feed_bytes judge now piece) → feed_bytes judge now left ≡ total
+    → ((f : SetFault) → IsPieceFault full judge now left f → may f) → TakesPiece may (Err fault) newer total
+piece_fails full judge (faults.Set fault) may now new newer total left piece after parts took so_far wider = wider fault (piece_in_front full judge fault now left piece after parts took)
+piece_fails full judge (faults.Line n cause) may now new newer total left piece after parts took so_far wider =
+    sym (piece_taken judge now _ total left piece after parts took so_far) ∙ stopped_stays judge (faults.Line n cause) after
+piece_fails full judge (faults.Truncated n) may now new newer total left piece after parts took so_far wider = absurd took
 
 pub line_fails : {S : Type 0} (full : SetFault → S → Type 0) (judge : Judge S) (fault : JournalFault) (may : SetFault → Type 0) (now new newer total : Progress S) (left line after : List ℕ)
     → left ≡ line ++ 10 ∷ after → TakesPiece (IsPieceFault full judge now (line ++ 10 ∷ [])) (Err fault) new (feed_bytes judge now (line ++ 10 ∷ [])) → feed_bytes judge now left ≡ total
     → ((f : SetFault) → IsPieceFault full judge now left f → may f) → TakesPiece may (Err fault) newer total
-line_fails full judge (faults.Set fault) may now new newer total left line after parts took so_far wider = wider fault (line_in_front full judge fault now left line after parts took)
-line_fails full judge (faults.Line n cause) may now new newer total left line after parts took so_far wider =
-    sym (line_taken judge now _ total left line after parts took so_far) ∙ stopped_stays judge (faults.Line n cause) after
-line_fails full judge (faults.Truncated n) may now new newer total left line after parts took so_far wider = absurd took
+line_fails full judge fault may now new newer total left line after parts = piece_fails full judge fault may now new newer total left (line ++ 10 ∷ []) after (line_in left line after parts)
 
 pub rest_kept : {S : Type 0} (judge : Judge S) (o : Option JournalFault) (s : S) (n : ℕ) (rest new left : List ℕ) (total : Progress S)
     → o ≡ None → IsOneLine left → new ≡ rest ++ left → feed_bytes judge (unless_stopped o (Reading s n rest)) left ≡ total → total ≡ unless_stopped o (Reading s n new)

@@ -1,8 +1,13 @@
--- The text of lines that were parsed.
+-- The text of what was parsed.
 use Rattle.std.specs.Prelude.{ℕ, List, [], ◌∷◌, ◌++◌}
-use Rattle.txn_journal.specs.declared.parsed_lines.ParsedLine.{ParsedLine}
+use Rattle.txn_journal.specs.declared.parsed_lines.ParsedItem.{ParsedItem}
+use Rattle.txn_journal.specs.declared.parsed_lines.ParsedItem.TheVariants.{Line, Entry}
 
--- the lines, each ended by a line feed
-abbrev pub lines_in : List ParsedLine → List ℕ
-lines_in [] = []
-lines_in (l ∷ ls) = l.line.now ++ 10 ∷ lines_in ls
+-- a line with its line feed, or the lines of an entry
+abbrev pub item_text : ParsedItem → List ℕ
+item_text (Line l) = l.line.now ++ 10 ∷ []
+item_text (Entry e) = e.text
+
+abbrev pub text_in : List ParsedItem → List ℕ
+text_in [] = []
+text_in (x ∷ xs) = item_text x ++ text_in xs

@@ -11,6 +11,7 @@ use crate::images::{image, table_at};
 use crate::lines::Version;
 use crate::names::Names;
 use crate::open_bundle::OpenBundle;
+use crate::parsed_lines::ParsedEntry;
 use crate::tables::add_table;
 use gtid_set::{GtidSet, SetFault};
 use gtid_text::SourceId;
@@ -174,7 +175,7 @@ fn forget(writers: &mut Option<LastWriters>)
 }
 
 impl BundleDraft {
-    ghost use Rattle.std.specs.Prelude.{option_map, None, Ok, IfOk, true, false, [], ◌∷◌, ◌++◌, ◌&&◌, codes};
+    ghost use Rattle.std.specs.Prelude.{option_map, None, Ok, IfOk, true, false, [], ◌∷◌, ◌++◌, ◌+◌, ◌&&◌, length, codes};
     ghost use Rattle.std.specs.Str.{bytes_eq};
     ghost use Rattle.logical_timestamps.specs.Writers.{writers_after};
     ghost use Rattle.gtid_set.specs.declared.fault.SetFault.TheVariants.{SourcesFull};
@@ -190,6 +191,7 @@ impl BundleDraft {
     ghost use Rattle.txn_journal.specs.BundleDrafts.{bundle_standing};
     ghost use Rattle.txn_journal.specs.ChangeLines.{change_in};
     ghost use Rattle.txn_journal.specs.BundleChanges.{with_change};
+    ghost use Rattle.txn_journal.specs.TakenEntries.{TakesText};
 
     /// Before the first line.
     pub fn start(alloc: Global, due: Option<Version>) -> BundleDraft
@@ -659,5 +661,17 @@ impl BundleDraft {
             return self.add_change(change);
         }
         self.take_line(alloc, line)
+    }
+
+    /// Takes the lines of a whole entry of the open channel's journal, where nothing is wrong with them. With false all is left as it was.
+    pub fn take_entry(&mut self, entry: ParsedEntry<'_>) -> Result<bool, AllocError>
+        ensures { TakesText judge_bundle result entry.entry.text (length entry.entry.changes + 2) (bundle_standing self.old) (bundle_standing self.new) }
+    {
+        if self.part != Part::Journal || self.version != Version::One {
+            return Ok(false);
+        }
+        forget(&mut self.writers);
+        let (gtid, changes) = entry.into_parts();
+        self.draft.join_whole(self.bundle.schema(), gtid, changes)
     }
 }

@@ -12,7 +12,7 @@ use crate::bundle_draft::BundleDraft;
 use crate::fault::{JournalFault, LineFault};
 use crate::feed::{Feed, TakeChange, TakeLine};
 use crate::lines::Version;
-use crate::parsed_lines::ParsedLines;
+use crate::parsed_lines::{ParsedEntry, ParsedLines};
 use rows::Change;
 use std::alloc::{AllocError, Global};
 use std::marker::Model;
@@ -104,6 +104,16 @@ impl TakeChange for Lines {
     fn take_change(&mut self, alloc: Global, line: &[u8], change: Change) -> Result<(), LineFault> {
         match self.draft.take_change(alloc, line, change) {
             Ok(()) => Ok(()),
+            Err(fault) => {
+                self.draft.start_again(alloc);
+                Err(fault)
+            }
+        }
+    }
+
+    fn take_entry(&mut self, alloc: Global, entry: ParsedEntry<'_>) -> Result<bool, AllocError> {
+        match self.draft.take_entry(entry) {
+            Ok(made) => Ok(made),
             Err(fault) => {
                 self.draft.start_again(alloc);
                 Err(fault)

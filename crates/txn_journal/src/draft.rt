@@ -1,5 +1,6 @@
 //! A journal as far as its lines have come.
-ghost use Rattle.std.specs.Prelude.{◌≡◌, ◌≤◌, true, option_map};
+ghost use Rattle.std.specs.Prelude.{◌≡◌, ◌≤◌, [], true, option_map, Some, IfOk};
+ghost use Rattle.std.specs.List.{list_all};
 ghost use Rattle.txn_journal.specs.Stream.{Finds};
 ghost use Rattle.txn_journal.specs.Lines.{version_in};
 ghost use Rattle.txn_journal.specs.Machine.{is_row_of, are_rows_of, fits};
@@ -26,7 +27,7 @@ use std::alloc::{AllocError, Global};
 use std::mem;
 
 /// The greatest number of changes of a transaction.
-const MAX_CHANGES: usize = 65_536;
+pub const MAX_CHANGES: usize = 65_536;
 
 /// The greatest number of entries of a journal's text. Our own limit.
 pub const MAX_ENTRIES: u64 = 4_294_967_294;
@@ -111,8 +112,36 @@ fn fits(schema: Option<&Schema>, change: &Change) -> bool
     }
 }
 
+/// Whether the schema takes the images of all of these changes.
+fn fit_all(schema: &Schema, changes: &[Change]) -> bool
+    ensures { result ≡ list_all (fits (Some schema.now)) changes.now }
+{
+    changes.iter().all(|change| fits(Some(schema), change))
+}
+
+/// So many changes, at most, have room before they come.
+const MOST_ROOM: usize = 64;
+
+/// All changes, which are taken away. Where there is one, the room stays for those that come next; where there are more, those that come
+/// next have room for as many.
+pub fn take_changes(alloc: Global, changes: &mut Vec<Change>) -> Result<Changes, AllocError>
+    ensures changes { IfOk result (λ it. it ≡ changes.old.items) }
+    ensures left { changes.new.items ≡ [] }
+{
+    if changes.len() == 1 {
+        if let Some(change) = changes.pop() {
+            return Changes::single(alloc, change);
+        }
+    }
+    let room = changes.len().min(MOST_ROOM);
+    let taken = mem::replace(changes, Vec::new(alloc));
+    // (a guess, which may be refused)
+    let _ = changes.reserve(room);
+    Changes::new(taken)
+}
+
 impl Draft {
-    ghost use Rattle.std.specs.Prelude.{option_map, [], Some, Ok, IfOk, false, ◌&&◌, codes};
+    ghost use Rattle.std.specs.Prelude.{Ok, false, ◌&&◌, codes};
     ghost use Rattle.std.specs.Str.{bytes_eq};
     ghost use Rattle.journal.specs.Writing.{is_writable};
     ghost use Rattle.txn_journal.specs.Reading.{has_begun};
@@ -123,6 +152,7 @@ impl Draft {
     ghost use Rattle.txn_journal.specs.Stream.{TakesLine, IsRefusedWhereFull, TakesPlain};
     ghost use Rattle.txn_journal.specs.Machine.{Standing, IsFull, TakesIn, judge, empty, is_last, is_within, open_entry, join_entry, close_entry, drop_entries, add, header_line, previous_line, txn_line, end_line, close_line, step};
     ghost use Rattle.txn_journal.specs.Drafts.{standing};
+    ghost use Rattle.txn_journal.specs.TakenEntries.{MayFollow, JoinsEntry};
     ghost use Rattle.txn_journal.specs.Timestamped.{timestamped_of};
 
     /// Before the first line.
@@ -426,20 +456,13 @@ impl Draft {
         self.stamp
     }
 
-    /// The changes of the entry that is open. They are no longer in the draft; where there is one, their room stays for those of the
-    /// next entry.
+    /// The changes of the entry that is open. They are no longer in the draft.
     fn take_changes(&mut self, alloc: Global) -> Result<Changes, AllocError>
         ensures changes { IfOk result (λ changes. changes ≡ self.old.changes.items) }
         ensures left { standing self.new ≡ record (standing self.old) { changes = [] } }
         ensures gtid { self.new.gtid ≡ self.old.gtid }
     {
-        if self.changes.len() == 1 {
-            if let Some(change) = self.changes.pop() {
-                return Changes::single(alloc, change);
-            }
-        }
-        let changes = mem::replace(&mut self.changes, Vec::new(alloc));
-        Changes::new(changes)
+        take_changes(alloc, &mut self.changes)
     }
 
     /// A law, which does nothing: what was seen has not too many sources.
@@ -680,6 +703,46 @@ impl Draft {
         self.stamps.push(self.stamp)?;
         self.count += 1;
         Ok(true)
+    }
+
+    /// Adds a whole entry of version 1, whose lines were read beforehand, where nothing is wrong with it. With false all is left as it was.
+    pub fn join_whole(
+        &mut self,
+        schema: &Schema,
+        gtid: Gtid,
+        changes: Changes,
+    ) -> Result<bool, AllocError>
+        requires { AreWritable changes }
+        ensures { JoinsEntry schema.now result gtid changes (standing self.old) (standing self.new) }
+    {
+        if !self.may_follow(schema, &gtid, &changes) {
+            return Ok(false);
+        }
+        let Ok(()) = self.seen.add(gtid) else {
+            return Ok(false);
+        };
+        self.gtid = gtid;
+        self.stamp = 0;
+        self.journal.push(Entry {
+            gtid,
+            txn: Transaction { changes },
+        })?;
+        self.stamps.push(0)?;
+        self.count += 1;
+        Ok(true)
+    }
+
+    /// Whether nothing is wrong with an entry of version 1 that comes next.
+    fn may_follow(&self, schema: &Schema, gtid: &Gtid, changes: &Changes) -> bool
+        ensures { result ≡ true → MayFollow schema.now (standing self.now) gtid.now changes.now }
+    {
+        if self.place != Place::Between || self.version != Version::One || !self.changes.is_empty() {
+            return false;
+        }
+        if !is_number(gtid.number) || self.count >= MAX_ENTRIES || self.seen.contains(gtid) {
+            return false;
+        }
+        fit_all(schema, changes.as_slice())
     }
 
     #[tactic(auto, unfolding(crate::specs::Machine::close_line))]

@@ -1,12 +1,13 @@
 //! Lines out of pieces.
-ghost use Rattle.std.specs.Prelude.{◌≡◌, Ok, IfSome, IfNone};
+ghost use Rattle.std.specs.Prelude.{◌≡◌, ◌+◌, ◌≤◌, ◌^◌, ◌-◌, length, Ok, IfSome, IfNone};
 ghost use Rattle.gtid_set.specs.declared.fault.SetFault.{SetFault};
 ghost use Rattle.txn_journal.specs.Words.{IsOneLine, BeginsWithLine};
 ghost use Rattle.txn_journal.specs.Stream.{Judge, TakesLine, IsRefusedWhereFull, TakesPlain, IsLeftWhereFull};
 ghost use Rattle.txn_journal.specs.ChangeLines.{change_in};
+ghost use Rattle.txn_journal.specs.TakenEntries.{TakesText};
 
 use crate::fault::{Cause, JournalFault, LineFault};
-use crate::parsed_lines::{ParsedLine, ParsedLines};
+use crate::parsed_lines::{ParsedEntry, ParsedItem, ParsedLine, ParsedLines};
 use row_images::first_line_feed;
 use rows::Change;
 use std::alloc::{AllocError, Global};
@@ -47,12 +48,16 @@ pub trait TakeLine {
         ensures room { counts self.old → IsLeftWhereFull full result (judge self.old line.now) };
 }
 
-/// What takes lines of changes that were read beforehand, too.
+/// What takes lines of changes and entries that were read beforehand, too.
 pub trait TakeChange: TakeLine {
     /// Takes the next line, which writes this change, or returns its first fault.
     fn take_change(&mut self, alloc: Global, line: &[u8], change: Change) -> Result<(), LineFault>
         requires { change_in line.now ≡ Ok change }
         ensures { TakesLine Self.full result (Self.judge self.old line.now) self.new };
+
+    /// Takes the lines of a whole entry, where nothing is wrong with them. With false all is left as it was.
+    fn take_entry(&mut self, alloc: Global, entry: ParsedEntry<'_>) -> Result<bool, AllocError>
+        ensures { TakesText Self.judge result entry.entry.text (length entry.entry.changes + 2) self.old self.new };
 }
 
 /// A text that comes in pieces, as far as it has come.
@@ -225,7 +230,7 @@ impl<T: TakeChange> Feed<T> {
     ghost use Rattle.std.specs.Prelude.{[], ◌∷◌, ◌++◌, None, OnOk};
     ghost use Rattle.txn_journal.specs.Stream.{feed_bytes, IsPieceFault, Feeds, TakesPiece, answer};
     ghost use Rattle.txn_journal.specs.ChangeLines.{HasChange};
-    ghost use Rattle.txn_journal.specs.ParsedTexts.{lines_in};
+    ghost use Rattle.txn_journal.specs.ParsedTexts.{item_text};
     ghost use Rattle.txn_journal.specs.Feeds.{progress};
 
     /// Takes the next piece, whose lines were parsed. After an error every later call returns that error.
@@ -245,15 +250,57 @@ impl<T: TakeChange> Feed<T> {
         ensures next { TakesPiece (IsPieceFault T.full T.judge (progress self.old) piece.entry) result (progress self.new) (feed_bytes T.judge (progress self.old) piece.entry) }
         ensures goes { self.new.stopped ≡ None }
     {
-        let (mut lines, rest) = piece.into_parts();
-        'parsed: while let Some(parsed) = lines.pop_front() {
-            let ParsedLine { line, change } = parsed;
-            match self.take_either(alloc, line, change) {
+        let (mut items, rest) = piece.into_parts();
+        'parsed: while let Some(item) = items.pop_front() {
+            match self.take_item(alloc, item) {
                 Ok(()) => {}
                 Err(fault) => return Err(fault),
             }
         }
         self.take_piece(alloc, rest)
+    }
+
+    /// Takes an entry or a line.
+    fn take_item(&mut self, alloc: Global, item: ParsedItem<'_>) -> Result<(), JournalFault>
+        requires { self.old.stopped ≡ None }
+        ensures next { TakesPiece (IsPieceFault T.full T.judge (progress self.old) (item_text item.entry)) result (progress self.new) (feed_bytes T.judge (progress self.old) (item_text item.entry)) }
+        ensures goes { self.new.stopped ≡ None }
+    {
+        match item {
+            ParsedItem::Entry(entry) => self.take_whole(alloc, entry),
+            ParsedItem::Line(parsed) => {
+                let ParsedLine { line, change } = parsed;
+                self.take_either(alloc, line, change)
+            }
+        }
+    }
+
+    /// The number of an entry's last line, where that can be counted and no byte of its first line came before.
+    fn last_number(&self, entry: &ParsedEntry<'_>) -> Option<u64>
+        ensures first { IfSome result (λ number. self.now.rest.items ≡ []) }
+        ensures number { IfSome result (λ number. number ≡ self.now.lines + (length entry.now.changes + 2)) }
+        ensures fits { IfSome result (λ number. number ≤ 2 ^ 64 - 1) }
+    {
+        if !self.is_at_line() {
+            return None;
+        }
+        self.lines.checked_add(entry.lines())
+    }
+
+    /// Takes the lines of an entry.
+    fn take_whole(&mut self, alloc: Global, entry: ParsedEntry<'_>) -> Result<(), JournalFault>
+        requires { self.old.stopped ≡ None }
+        ensures next { TakesPiece (IsPieceFault T.full T.judge (progress self.old) entry.entry.text) result (progress self.new) (feed_bytes T.judge (progress self.old) entry.entry.text) }
+        ensures goes { self.new.stopped ≡ None }
+    {
+        let text = entry.text();
+        if let Some(number) = self.last_number(&entry) {
+            if self.made.take_entry(alloc, entry)? {
+                self.lines = number;
+                return Ok(());
+            }
+        }
+        self.take_piece(alloc, text)
     }
 
     /// Takes a line, and the change that it writes, where that was read.

@@ -187,7 +187,7 @@ impl NearSources {
 }
 
 /// The GTID that the word parses as. It is looked for among those of the sources that are near first; its own source is near then.
-fn gtid_in(alloc: Global, near: &mut NearSources, word: &[u8]) -> Result<Gtid, LineFault>
+pub fn gtid_in(alloc: Global, near: &mut NearSources, word: &[u8]) -> Result<Gtid, LineFault>
     ensures { Finds (λ g. g) result (some_or_body (gtid_of_word word.now)) }
 {
     if let Some(gtid) = near.find(word) {

@@ -1,0 +1,15 @@
+use Rattle.std.proofs.Common.{◌≡◌, ℕ, List, ◌++◌, length}
+use Rattle.txn_journal.specs.EntryLines.{ended, AreChangeLines}
+use Rattle.txn_journal.specs.Kept.{AreWritable}
+use Rattle.txn_journal.proofs.parsed_lines.changes_at.Given as goal
+
+abbrev pub invariant-lines : goal.invariant-lines
+invariant-lines l = record {
+  within : List (List ℕ);
+  so_far : l.fn.text ≡ ended within ++ l.left;
+  lines : AreChangeLines within l.changes.items;
+  writable : AreWritable l.changes.items;
+}
+
+abbrev pub decreases-lines : goal.decreases-lines
+decreases-lines l = length l.left
