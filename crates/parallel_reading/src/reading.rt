@@ -21,7 +21,7 @@ const PART: usize = 1_048_576;
 /// How many it parses at least, unless that is all.
 const LEAST_PART: usize = 262_144;
 
-/// So many threads parse lines faster than one takes them.
+/// So many threads at most parse lines.
 const MOST_PARSERS: usize = 4;
 
 /// How many bytes of so many that are left a thread parses next. The parts become smaller towards the end, for nothing is parsed while
@@ -104,9 +104,7 @@ fn fed_beside<R: Threads + Sync>(
 ) -> BundleReader
     ensures { (bytes : List ℕ) → HasCome reader bytes → HasCome result (bytes ++ piece.now) }
 {
-    let parsers = usize::from(workers)
-        .saturating_sub(1)
-        .clamp(1, MOST_PARSERS);
+    let parsers = usize::from(workers).clamp(1, MOST_PARSERS);
     let mut reader = reader;
     let part = part_size(piece.len(), parsers);
     let (mut block, mut left) = cut_block(piece, part * parsers);
@@ -124,8 +122,8 @@ fn fed_beside<R: Threads + Sync>(
     reader
 }
 
-/// Takes the next piece of a text. Its lines are parsed by one thread less than there are workers, but by one at least and four at most,
-/// while the lines before them are taken. What is wrong with the text is told when the reader ends.
+/// Takes the next piece of a text. Its lines are parsed by as many threads as there are workers, but by one at least and four at most, while
+/// the lines before them are taken. What is wrong with the text is told when the reader ends.
 pub fn feed_beside<R: Threads + Sync>(
     rt: &R,
     alloc: Global,
