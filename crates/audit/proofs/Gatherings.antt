@@ -1,7 +1,7 @@
 -- What one pass over journals gathers, entry after entry.
 use Rattle.std.proofs.Common.{◌≡◌, ◌<◌, ◌+◌, ℕ, zero, suc, Bool, true, false, cond, not, ◌&&◌, ◌⊎◌, inl, inr, List, [], ◌∷◌, ◌++◌, map, take, Option, Some, None, refl, sym, ap, ◌∙◌, subst, append_assoc, arith}
 use Rattle.std.proofs.lemmas.List.{append-nil}
-use Rattle.std.specs.Prelude.{slice_get, slice_set, nat_lt}
+use Rattle.std.specs.Prelude.{flat_map, slice_get, slice_set, nat_lt}
 use Rattle.std.specs.Option.{option_map_or, unwrap_or}
 use Rattle.std.specs.List.{Contains, list_all}
 use Rattle.std.proofs.lemmas.List.Elements.{Contains-append_left, Contains-push}
@@ -16,12 +16,14 @@ use Rattle.gtid_text.proofs.SameGtid.{gtid_total, same_is_equal, same_itself}
 use Rattle.gtid_set.specs.Sets.{Gtids}
 use Rattle.gtid_set.proofs.SetLemmas.{gtid_tied}
 use Rattle.rows.specs.Apply.{Rows}
+use Rattle.rows.specs.declared.change.Change.{Change}
+use Rattle.rows.specs.declared.change.Change.TheVariants.{Insert, Delete, Update}
 use Rattle.rows.specs.declared.change.Key.{Key}
 use Rattle.rows.specs.declared.change.Transaction.{Transaction}
 use Rattle.rows.specs.declared.schema.Table.{Table}
 use Rattle.rows.specs.Total.{key_eq_self}
 use Rattle.rows.specs.Order.{key_eq}
-use Rattle.rows.specs.WriteSet.{is_among, touches, write_set}
+use Rattle.rows.specs.WriteSet.{is_among, keys_of_change, touches, write_set}
 use Rattle.rows.proofs.Lists.{none_some, get_append_left, lt_cases, not_less}
 use Rattle.rows.proofs.Patching.{not_both}
 use Rattle.journal.specs.declared.Entry.{Entry}
@@ -371,3 +373,17 @@ none_in_keys schema opened rows journals are within ordered agree =
 pub keys_sound : (schema : List Table) (opened : Gtids) (rows : Rows) (journals : List JournalValue) → AreJournals journals → list_all (λ (j : JournalValue). set.is_subset j.previous opened) journals ≡ true
     → AreInOrder opened journals → AgreeApart opened schema journals → verdict_of_keys (world_of schema opened rows journals) journals ≡ Sound
 keys_sound schema opened rows journals are within ordered agree = ap (λ o. unwrap_or o Sound) (none_in_keys schema opened rows journals are within ordered agree)
+
+-- ---- where there are no tables
+
+no_keys : (cs : List Change) → flat_map (keys_of_change []) cs ≡ []
+no_keys [] = refl
+no_keys (Insert name row ∷ cs) = no_keys cs
+no_keys (Delete name row ∷ cs) = no_keys cs
+no_keys (Update name old new ∷ cs) = no_keys cs
+
+-- no mark is touched
+pub touches_none : (owners : ℕ → Option ℕ) (tables : List Table) (t : Transaction) (source : ℕ) → tables ≡ [] → TouchesMarks owners (map key_mark (write_set tables t)) source owners
+touches_none owners tables t source none =
+    subst (λ (keys : List Key). TouchesMarks owners (map key_mark keys) source owners) (sym (ap (λ (ts : List Table). write_set ts t) none ∙ no_keys t.changes))
+    (record { now = λ mark is. absurd cc; kept = λ mark owner is. is })
