@@ -1,16 +1,18 @@
 -- One more turn of the loops.
-use Rattle.std.proofs.Common.{◌≡◌, ℕ, suc, ◌+◌, ◌<◌, Bool, true, false, cond, List, [], ◌∷◌, ◌++◌, length, get_or, drop, Result, Ok, refl, ap, sym, ◌∙◌, subst, append_assoc, arith}
-use Rattle.std.specs.Prelude.{IfOk}
+use Rattle.std.proofs.Common.{◌≡◌, ℕ, zero, suc, ◌+◌, ◌<◌, ◌≤◌, inl, inr, map, Some, Bool, true, false, cond, List, [], ◌∷◌, ◌++◌, length, get_or, drop, Result, Ok, refl, ap, sym, ◌∙◌, subst, append_assoc, arith}
+use Rattle.std.specs.Prelude.{IfOk, slice_get}
+use Rattle.std.specs.Option.{option_map}
 use Rattle.std.specs.Borrow.{Bor}
 use Rattle.std.specs.List.{filter}
 use Rattle.std.specs.Map.Iter.{deref_pair}
 use Rattle.std.specs.declared.alloc.AllocError.{AllocError}
 use Rattle.std.proofs.lemmas.List.{drop_more, map-append}
-use Rattle.std.proofs.lemmas.Option.{slice_get_read, slice_get_within, get_or_from_slice_get}
+use Rattle.std.proofs.lemmas.Option.{slice_get-map, slice_get_cases, slice_get_within, get_or_from_slice_get}
 use Rattle.row_images.specs.declared.value.Value.{Value}
 use Rattle.rows.specs.declared.change.Key.{Key}
 use Rattle.rows.specs.Listing.{all_shown}
-use Rattle.row_parts.specs.Listing.{AreEntriesAt, entries_before}
+use Rattle.row_parts.specs.Listing.{entries_before}
+use Rattle.row_parts.specs.Ranges.{AreListedAt, joined_before, shown_at, shown_in}
 use Rattle.row_parts.specs.declared.listing.Listed.{Listed}
 
 abbrev Shown : Type 0
@@ -43,18 +45,23 @@ one_out t old new items i x all l at fails same so_far =
 
 -- ---- lists one after another
 
-pub one_more : (entries : ℕ → List (Key × List Value)) (lists : List (Result Listed AllocError)) (place : ℕ) (found : Result Listed AllocError) (list : Listed) (old new : List Shown)
-    → AreEntriesAt entries lists → place < length lists → found ≡ get_or lists place found → found ≡ Ok list → new ≡ old ++ list.entries.items
-    → all_shown old ≡ entries_before entries place → all_shown new ≡ entries_before entries (place + 1)
-one_more entries lists place found list old new are l at ok pushed so_far =
-    let here : all_shown list.entries.items ≡ entries place = subst (λ r. IfOk r (λ f. all_shown f.entries.items ≡ entries place)) ok (are place found (slice_get_read lists (length lists) place found refl l at)) in
-    let next : suc place ≡ place + 1 = omega arith in
-    ap all_shown pushed ∙ map-append deref_pair old list.entries.items
-    ∙ (λ i. so_far i ++ here i)
-    ∙ ap (entries_before entries) next
+abbrev pub made : Listed → Result Listed AllocError
+made = Ok
 
 -- each list is that of its place, where each call gave it so
-pub each_at : (entries : ℕ → List (Key × List Value)) (lists : List (Result Listed AllocError)) → ((i : ℕ) (d : Result Listed AllocError) → i < length lists → IfOk (get_or lists i d) (λ f. all_shown f.entries.items ≡ entries i))
-    → AreEntriesAt entries lists
-each_at entries lists h i found s =
-    subst (λ r. IfOk r (λ f. all_shown f.entries.items ≡ entries i)) (get_or_from_slice_get lists i found found s) (h i found (slice_get_within lists i found s))
+pub each_at : (entries : ℕ → List (Key × List Value)) (lists : List Listed) (found : List (Result Listed AllocError)) → map made lists ≡ found → ((i : ℕ) (d : Result Listed AllocError) → i < length found → IfOk (get_or found i d) (λ f. all_shown f.entries.items ≡ entries i))
+    → AreListedAt entries lists
+each_at entries lists found is h i list at =
+    let here : slice_get found i ≡ Some (made list) = ap (λ fs. slice_get fs i) (sym is) ∙ slice_get-map made lists i ∙ ap (option_map made) at in
+    subst (λ r. IfOk r (λ f. all_shown f.entries.items ≡ entries i)) (get_or_from_slice_get found i (made list) (made list) here) (h i (made list) (slice_get_within found i (made list) here))
+
+-- all of them, one after another
+pub all_at : (entries : ℕ → List (Key × List Value)) (lists : List Listed) (n : ℕ) → AreListedAt entries lists → n ≤ length lists → all_shown (joined_before (shown_at lists) n) ≡ entries_before entries n
+all_at entries lists zero are fits = refl
+all_at entries lists (suc n) are fits =
+    let w = elim (slice_get_cases lists n).1 as (λ _. (l : Listed) × (slice_get lists n ≡ Some l)) [
+      | inl w ↦ (w.0, w.2)
+      | inr past ↦ let high = past.0 in absurd (omega (high, fits, arith))
+    ] in
+    map-append deref_pair (joined_before (shown_at lists) n) (shown_at lists n)
+    ∙ (λ i. all_at entries lists n are (omega (arith, fits)) i ++ (ap (λ o. all_shown (shown_in o)) w.1 ∙ are n w.0 w.1) i)

@@ -1,15 +1,13 @@
 -- The rows of parts, listed together.
-use Rattle.std.specs.Prelude.{◌≡◌, not, ℕ, zero, suc, List, [], ◌++◌, map, filter, Option, Some, None, Result, IfOk, slice_get}
+use Rattle.std.specs.Prelude.{not, ℕ, zero, suc, List, [], ◌++◌, map, filter, Option, Some, None, slice_get}
 use Rattle.std.specs.FinMap.{get}
 use Rattle.std.specs.List.{list_all}
-use Rattle.std.specs.declared.alloc.AllocError.{AllocError}
 use Rattle.row_images.specs.declared.value.Value.{Value}
 use Rattle.rows.specs.Apply.{Rows}
 use Rattle.rows.specs.Database.{Database}
 use Rattle.rows.specs.declared.change.Key.{Key}
-use Rattle.rows.specs.Listing.{all_shown, entries_listed}
+use Rattle.rows.specs.Listing.{entries_listed}
 use Rattle.rows.specs.Patch.{same_row}
-use Rattle.row_parts.specs.declared.listing.Listed.{Listed}
 
 -- the rows of each part
 abbrev pub rows_in_each : List Database → List Rows
@@ -36,7 +34,3 @@ entries_at opening parts place = entries_of opening parts (slice_get parts place
 abbrev pub entries_before : (ℕ → List (Key × List Value)) → ℕ → List (Key × List Value)
 entries_before entries zero = []
 entries_before entries (suc n) = entries_before entries n ++ entries n
-
--- each list that was made has the entries of its place
-abbrev pub AreEntriesAt : (ℕ → List (Key × List Value)) → List (Result Listed AllocError) → Type 0
-AreEntriesAt entries lists = (i : ℕ) (found : _) → slice_get lists i ≡ Some found → IfOk found (λ list. all_shown list.entries.items ≡ entries i)

@@ -12,5 +12,6 @@
 #![tactic(auto)]
 
 mod listing;
+mod ranges;
 
 pub use listing::list_whole;

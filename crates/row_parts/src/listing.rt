@@ -1,21 +1,22 @@
 //! The rows of all parts together, in order.
-ghost use Rattle.std.specs.Prelude.{◌≡◌, IfOk, Some, length};
+ghost use Rattle.std.specs.Prelude.{◌≡◌, IfOk, Some};
 ghost use Rattle.std.specs.FinMap as map;
 ghost use Rattle.std.specs.List.{list_all};
 ghost use Rattle.rows.specs.Listing.{all_shown, rows_of, rows_listed};
 ghost use Rattle.rows.specs.Parts.{AreParts};
 ghost use Rattle.rows.specs.Patch.{same_row};
-ghost use Rattle.row_parts.specs.Listing.{AreEntriesAt, changed_entries, entries_at, entries_before, kept_entries, rows_in_each};
+ghost use Rattle.row_parts.specs.Listing.{changed_entries, entries_at, kept_entries, rows_in_each};
 
-use rows::{Key, Row, Rows, sort_by_keys};
+use crate::ranges::{all_made, merge_beside};
+use rows::{Key, Row, Rows};
 use std::alloc::{AllocError, Global};
 use std::thread;
 use std::thread::Threads;
 
 /// Rows lent with their keys.
 #[derive(Drop)]
-struct Listed<'a> {
-    entries: Vec<(&'a Key, &'a Row)>,
+pub(crate) struct Listed<'a> {
+    pub(crate) entries: Vec<(&'a Key, &'a Row)>,
 }
 
 /// Whether rows have this row under this key.
@@ -92,23 +93,6 @@ fn list_at<'a>(
     Ok(Listed { entries })
 }
 
-/// Lists one after another, unless one of them could not be made or memory is refused.
-fn gather<'a>(
-    alloc: Global,
-    lists: &[Result<Listed<'a>, AllocError>],
-) -> Result<Vec<(&'a Key, &'a Row)>, AllocError>
-    ensures { IfOk result (λ all. (entries : _) → AreEntriesAt entries lists.now → all_shown all.items ≡ entries_before entries (length lists.now)) }
-{
-    let mut all = Vec::new(alloc);
-    for place in 0..lists.len() {
-        let Ok(list) = &lists[place] else {
-            return Err(AllocError);
-        };
-        all.extend_from_slice(&list.entries)?;
-    }
-    Ok(all)
-}
-
 /// The rows of a whole, of which the opening rows and these parts are known, lent with their primary keys: by table name, and then by the
 /// values of the key. Each part is listed on a thread of its own where one can be started.
 pub fn list_whole<'a, R: Threads + Sync>(
@@ -127,7 +111,7 @@ pub fn list_whole<'a, R: Threads + Sync>(
             ensures { IfOk result (λ list. all_shown list.entries.items ≡ entries_at opening.entry.now.rows (rows_in_each parts.entry.now) place) }
         { list_at(alloc, opening, parts, place) },
     )?;
-    let mut list = gather(alloc, &lists)?;
-    sort_by_keys(&mut list)?;
+    let lists = all_made(alloc, lists)?;
+    let list = merge_beside(rt, alloc, &lists)?;
     Ok(list)
 }

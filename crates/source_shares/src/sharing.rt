@@ -1,5 +1,5 @@
 //! Sources put into shares of about one size.
-ghost use Rattle.std.specs.Prelude.{◌≡◌, ◌<◌, IfOk, length};
+ghost use Rattle.std.specs.Prelude.{◌≡◌, ◌<◌, ◌≤◌, IfOk, length};
 ghost use Rattle.source_shares.specs.Shares.{AreBelow, share_in};
 
 use gtid_text::SourceId;
@@ -20,28 +20,42 @@ pub(crate) fn share_of(shares: &[(SourceId, usize)], source: SourceId) -> usize
     }
 }
 
-/// Whether an entry is the last of its source, where those of one source follow one another. (A guess.)
-fn is_last(entries: &[&Entry], place: usize, source: SourceId) -> bool {
-    match entries.get(place) {
-        Some(next) => next.gtid.source != source,
-        None => true,
+/// So many entries of a source are looked at for how many changes they have.
+const SAMPLE: usize = 64;
+
+/// About how many changes entries have, by the first of them.
+fn usual_changes(entries: &[&Entry]) -> usize {
+    let (sample, _others) = entries.split_at(entries.len().min(SAMPLE));
+    let mut changes: usize = 0;
+    for entry in sample {
+        changes = changes.saturating_add(entry.txn.changes.as_slice().len());
     }
+    (changes / sample.len().max(1)).saturating_mul(entries.len())
 }
 
-/// How many changes each source has, where its entries follow one another. (A guess.)
+/// The place behind the entries of the source of the one at a place, where sources are ascending.
+fn place_behind(entries: &[&Entry], place: usize) -> usize
+    requires { place < length entries.now }
+    ensures behind { place < result }
+    ensures within { result ≤ length entries.now }
+{
+    let source = entries[place].gtid.source;
+    let behind = entries.partition_point(|entry| entry.gtid.source <= source);
+    behind.clamp(place + 1, entries.len())
+}
+
+/// About how many changes each source has, where sources are ascending. (A guess.)
 pub(crate) fn count_changes(
     alloc: Global,
     entries: &[&Entry],
 ) -> Result<Vec<(SourceId, usize)>, AllocError> {
     let mut counts = Vec::new(alloc);
-    let mut count: usize = 0;
-    for (place, entry) in entries.iter().enumerate() {
-        count = count.saturating_add(entry.txn.changes.as_slice().len());
-        let source = entry.gtid.source;
-        if is_last(entries, place + 1, source) {
-            counts.push((source, count))?;
-            count = 0;
-        }
+    let mut place = 0;
+    'sources: while place < entries.len() {
+        let behind = place_behind(entries, place);
+        let source = entries[place].gtid.source;
+        counts.push((source, usual_changes(&entries[place..behind])))?;
+        place = behind;
     }
     Ok(counts)
 }

@@ -1,7 +1,10 @@
-use Rattle.std.proofs.Common.{◌≡◌, ◌+◌, ◌<◌, length, subst, sym, ap, ◌∙◌}
+use Rattle.std.proofs.Common.{◌≡◌, ◌+◌, ◌<◌, List, length, subst, sym, ap, ◌∙◌, le_refl}
+use Rattle.std.specs.Prelude.{IsPermutation}
 use Rattle.std.proofs.lemmas.List.{length-map}
-use Rattle.row_parts.specs.Listing.{AreEntriesAt, entries_at, entries_before, rows_in_each}
-use Rattle.row_parts.proofs.Steps.{each_at}
+use Rattle.row_parts.specs.Ranges.{AreListedAt, joined_before, shown_at}
+use Rattle.row_parts.specs.Listing.{entries_at, entries_before, rows_in_each}
+use Rattle.row_parts.specs.declared.listing.Listed.{Listed}
+use Rattle.row_parts.proofs.Steps.{all_at, each_at, made}
 use Rattle.row_parts.proofs.Whole.{whole_listed}
 use Rattle.row_parts.proofs.listing.list_whole.Goals as goal
 
@@ -9,11 +12,11 @@ pub returns : goal.returns
 returns g c whole are =
     let parts = rows_in_each c.args.parts.now in
     let entries = entries_at c.args.opening.now.rows parts in
-    let lists = c.in_ok-lists.lists in
-    let count : length lists.items ≡ length c.args.parts.now + 1 = sym lists.ok.0 ∙ c.in_ok-lists.ensures.len in
-    let each : AreEntriesAt entries lists.items = each_at entries lists.items (λ i d l. (c.in_ok-lists.ensures.each i d (subst (λ n. i < n) count l)).1.met) in
-    let shown = c.deref.ensures.value in
-    let number : length c.deref.result.now ≡ length parts + 1 = ap length shown ∙ count ∙ ap (λ n. n + 1) (sym (length-map c.args.parts.now (λ p. p.rows))) in
-    whole_listed c.args.opening.now.rows parts whole are c.in_ok-list.list.items c.sort_by_keys.new.list.items
-    (c.in_ok-list.ensures entries (subst (AreEntriesAt entries) (sym shown) each) ∙ ap (entries_before entries) number)
-    c.in_ok-sort_by_keys.ensures.same c.in_ok-sort_by_keys.ensures.sorted
+    let found = c.in_ok-lists.lists in
+    let lists = c.in_ok-lists-2.lists.items in
+    let count : length found.items ≡ length c.args.parts.now + 1 = sym found.ok.0 ∙ c.in_ok-lists.ensures.len in
+    let each : AreListedAt entries lists = each_at entries lists found.items c.in_ok-lists-2.ensures (λ i d l. (c.in_ok-lists.ensures.each i d (subst (λ n. i < n) count l)).1.met) in
+    let number : length lists ≡ length parts + 1 = sym (length-map lists made) ∙ ap length c.in_ok-lists-2.ensures ∙ count ∙ ap (λ n. n + 1) (sym (length-map c.args.parts.now (λ p. p.rows))) in
+    let merged = subst (λ (ls : List Listed). IsPermutation (joined_before (shown_at ls) (length ls)) c.in_ok-list.list.items) c.deref.ensures.value c.in_ok-list.ensures.same in
+    whole_listed c.args.opening.now.rows parts whole are (joined_before (shown_at lists) (length lists)) c.in_ok-list.list.items
+    (all_at entries lists (length lists) each (le_refl (length lists)) ∙ ap (entries_before entries) number) merged c.in_ok-list.ensures.rising

@@ -1,0 +1,21 @@
+use Rattle.std.proofs.Common.{List, length, subst}
+use Rattle.std.specs.Prelude.{slice_get, IsPermutation}
+use Rattle.row_parts.specs.Ranges.{RisesAlong, cuts_in, joined_before, shown_at}
+use Rattle.row_parts.specs.declared.listing.Listed.{Listed}
+use Rattle.row_parts.proofs.Cutting.{all_ranges, merged}
+use Rattle.row_parts.proofs.ranges.merge_beside.Goals as goal
+
+pub returns-clause-same : goal.returns-clause-same
+returns-clause-same g c =
+    let all = c.in_ok-all.all.items in
+    let found = c.in_ok-found in
+    merged c.args.lists.now c.in_ok-ranges.ranges.items found.found.items (λ i. cuts_in (slice_get c.deref.result.now i)) all
+    c.in_ok-ranges.ensures found.ensures.count found.ensures.ranges
+    (subst (λ (rs : List Listed). IsPermutation (joined_before (shown_at rs) (length rs)) all) c.deref-2.ensures.value c.in_ok-all.ensures.same)
+
+pub returns-clause-rising : goal.returns-clause-rising
+returns-clause-rising g c =
+    let all = c.in_ok-all.all.items in
+    let found = c.in_ok-found in
+    let rises = subst (λ (rs : List Listed). RisesAlong rs all) c.deref-2.ensures.value c.in_ok-all.ensures.rising in
+    rises (λ i l at. (all_ranges c.args.lists.now c.in_ok-ranges.ranges.items found.found.items (λ i. cuts_in (slice_get c.deref.result.now i)) c.in_ok-ranges.ensures found.ensures.ranges i l at).rising)
