@@ -5,9 +5,9 @@
 //! whatever the number of threads, whichever of them could be started and however the text is cut into parts. `feed_beside` takes
 //! one more piece, for callers that read while it does.
 //!
-//! How it goes: a text is cut into blocks of 1 MiB for each thread that parses, and a block into as many parts, cut anywhere. What the
-//! lines of changes write is read on those threads (`ParsedLines` of `txn_journal`), while another takes the lines of the block before
-//! in order, since each line is judged by what those before it have made. Where memory is refused for the parts of a block, its bytes
+//! How it goes: a text is cut into blocks of 1 MiB for each thread that parses, and a block into as many parts, cut anywhere. Whole
+//! entries, and what lines of changes write elsewhere, are read on those threads (`ParsedLines` of `txn_journal`), while another takes
+//! them of the block before in order, since each line is judged by what those before it have made. Where memory is refused for the parts of a block, its bytes
 //! are taken as they are. A thread that can't be started leaves its work to the caller's.
 //!
 //! Not proved: speed, and that a thread runs.

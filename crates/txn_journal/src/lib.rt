@@ -3,8 +3,8 @@
 //! `Reader` and `BundleReader` have `start`, `feed` and `finish`; `decode` and `decode_bundle` are one `feed` and `finish`. Both versions
 //! of the format are read, and written by `encode` (version 1), `encode_v2` and `encode_bundle_v2`.
 //!
-//! `ParsedLines` is a piece of text whose changes were read beforehand, on any thread; `feed_parsed` of `BundleReader` takes it as `feed`
-//! takes its text.
+//! `ParsedLines` is a piece of text whose entries and changes were read beforehand, on any thread; `feed_parsed` of `BundleReader` takes it
+//! as `feed` takes its text. A whole entry of version 1 with nothing wrong is taken at once: what its lines make one after another is a law.
 //!
 //! What a contract sees: a `Journal` is a previous set and a list of entries; a `Reader` is how far a text has come, what its whole lines
 //! have made, or the fault at which it stopped. A grammar defines which lines write a value (`Writes`, `WritesBundle`). A text is read
