@@ -9,3 +9,4 @@ pub mod Explaining
 pub mod Unsound
 pub mod ReadBlocks
 pub mod RowLines
+pub mod InPieces

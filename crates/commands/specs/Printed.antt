@@ -1,6 +1,5 @@
 -- What a command reads, and what it answers.
 use Rattle.std.specs.Prelude.{◌≡◌, ◌⊎◌, ℕ, List, [], ◌∷◌, ◌++◌, Result, Ok, Err}
-use Rattle.std.specs.String.{string_bytes}
 use Rattle.std.specs.Io.KnownBytes.{Appends}
 use Rattle.gtid_set.specs.declared.fault.SetFault.{SetFault}
 use Rattle.gtid_set.specs.declared.fault.SetFault.TheVariants as sets
@@ -60,7 +59,7 @@ IsAnswerTo Parses decoded answers MayFail bytes printed =
 
 -- the code's answer denotes this one
 abbrev pub Holds : Answer → Printed → Type 0
-Holds answer printed = (string_bytes answer.text ≡ printed.text) × (answer.outcome ≡ printed.outcome)
+Holds answer printed = (answer.text ≡ printed.text) × (answer.outcome ≡ printed.outcome)
 
 -- the code's answer is the answer to these bytes
 abbrev pub HoldsOne : (List ℕ → Printed → Type 0) → List ℕ → Answer → Type 0

@@ -4,6 +4,7 @@ ghost use Rattle.gtid_report.specs.Refusals.{refusal_line};
 ghost use Rattle.commands.specs.Printed.{with_line_feed, refused_with, Holds, Settles};
 
 use crate::edge::{Outcome, RunFault};
+use crate::pieces::Text;
 use gtid_report::{Fault, Refusal, render_fault};
 use std::alloc::{AllocError, Global};
 
@@ -11,7 +12,7 @@ use std::alloc::{AllocError, Global};
 #[derive(Drop)]
 pub struct Answer {
     pub outcome: Outcome,
-    pub text: String,
+    pub text: Text,
 }
 
 /// A line with its line feed.
@@ -37,7 +38,7 @@ pub(crate) fn refusal_answer(alloc: Global, refusal: &Refusal) -> Result<Answer,
 {
     Ok(Answer {
         outcome: Outcome::Refused,
-        text: refusal_text(alloc, refusal)?,
+        text: Text::of(alloc, refusal_text(alloc, refusal)?),
     })
 }
 

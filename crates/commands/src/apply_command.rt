@@ -16,6 +16,7 @@ use crate::audit_command::verdict_answer;
 use crate::bundle_reading::read_bundle;
 use crate::edge::{Outcome, RunFault, Sink, Source};
 use crate::parallel::apply_journals;
+use crate::pieces::Text;
 use crate::printing::render_beside;
 use crate::request::{Request, answer_decoded, run};
 use crate::side_by_side::serve_beside;
@@ -43,7 +44,7 @@ fn state_answer(alloc: Global, core: &Core) -> Result<Answer, AllocError>
     let text = render_state(alloc, core.executed(), core.rows())?;
     Ok(Answer {
         outcome: Outcome::Done,
-        text,
+        text: Text::of(alloc, text),
     })
 }
 

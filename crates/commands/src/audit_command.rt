@@ -6,6 +6,7 @@ ghost use Rattle.commands.specs.Bundles.{Audits, audit_answer, verdict_ending, p
 
 use crate::answer::{Answer, with_line_feed};
 use crate::edge::{Outcome, RunFault, Sink, Source};
+use crate::pieces::Text;
 use crate::request::{Request, run};
 use crate::streams::Streams;
 use gtid_report::{Fault, render_verdict};
@@ -31,7 +32,7 @@ pub(crate) fn verdict_answer(alloc: Global, verdict: &Verdict) -> Result<Answer,
     let line = render_verdict(alloc, verdict)?;
     Ok(Answer {
         outcome: verdict_ending(verdict),
-        text: with_line_feed(line)?,
+        text: Text::of(alloc, with_line_feed(line)?),
     })
 }
 

@@ -15,8 +15,9 @@ use txn_journal::BundleReader;
 /// How many reads, of at most 65,536 bytes each, make the first block: 2 MiB. Nothing is parsed while it is read.
 const FIRST_READS: usize = 32;
 
-/// How many make a block at most: 16 MiB.
-const MOST_BLOCK_READS: usize = 256;
+/// How many make a block at most: 4 MiB. Freeing a larger one at the end takes milliseconds on one thread, and touching more fresh pages
+/// costs more than reading anew into the same ones.
+const MOST_BLOCK_READS: usize = 64;
 
 /// Reads the next block, by so many reads, and whether it is the last. What was in the block is given up.
 fn read_block<S: Source>(

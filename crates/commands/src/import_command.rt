@@ -7,6 +7,7 @@ ghost use Rattle.commands.specs.Imports.{IsImportAnswer};
 use crate::answer::Answer;
 use crate::edge::{Outcome, RunFault, Sink, Source};
 use crate::import_fault::import_refused;
+use crate::pieces::Text;
 use crate::streams::Streams;
 use binlog_bundle::import_bundle;
 use std::alloc::Global;
@@ -21,7 +22,7 @@ fn import_found(alloc: Global, bundle: &Bundle) -> Result<Answer, RunFault>
     match bundle_text_v2(alloc, bundle) {
         Ok(text) => Ok(Answer {
             outcome: Outcome::Done,
-            text,
+            text: Text::of(alloc, text),
         }),
         Err(_) => Err(RunFault::Memory),
     }

@@ -5,6 +5,7 @@ ghost use Rattle.commands.specs.Imports.{cause_word, text_refused, entry_refused
 
 use crate::answer::{Answer, refusal_answer, with_line_feed};
 use crate::edge::{Outcome, RunFault};
+use crate::pieces::Text;
 use binlog_bundle::BundleFault;
 use binlog_entries::{EntryRefusal as LineRefusal, ImportFault, LogFault, ReadFault};
 use gtid_report::{Fault, Refusal, push_number};
@@ -142,7 +143,7 @@ fn line_answer(alloc: Global, line: u64, cause: ImportCause) -> Result<Answer, A
     let text = import_line(alloc, line, cause)?;
     Ok(Answer {
         outcome: Outcome::Refused,
-        text: with_line_feed(text)?,
+        text: Text::of(alloc, with_line_feed(text)?),
     })
 }
 

@@ -8,6 +8,7 @@ ghost use Rattle.commands.specs.Listings.{Lists, printed_faults, held_faults, li
 use crate::answer::Answer;
 use crate::audit_command::verdict_ending;
 use crate::edge::{Outcome, RunFault, Sink, Source};
+use crate::pieces::Text;
 use crate::request::{Request, run};
 use crate::streams::Streams;
 use audit::AllFaults;
@@ -72,7 +73,7 @@ fn list_answer(alloc: Global, all: &AllFaults) -> Result<Answer, AllocError>
     push_verdicts(alloc, &mut text, all.does_not_apply.as_slice())?;
     Ok(Answer {
         outcome: verdict_ending(&all.verdict),
-        text,
+        text: Text::of(alloc, text),
     })
 }
 

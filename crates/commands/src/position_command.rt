@@ -7,6 +7,7 @@ ghost use Rattle.commands.specs.Positions.{asking_in, printed_sending, position_
 
 use crate::answer::{Answer, refusal_answer, with_line_feed};
 use crate::edge::{Outcome, RunFault, Sink, Source};
+use crate::pieces::Text;
 use crate::request::{Request, run};
 use crate::streams::Streams;
 use auto_position::PositionFault;
@@ -47,7 +48,7 @@ fn sent_answer(alloc: Global, entries: &[Entry]) -> Result<Answer, AllocError>
 {
     Ok(Answer {
         outcome: Outcome::Done,
-        text: render_sending(alloc, entries)?,
+        text: Text::of(alloc, render_sending(alloc, entries)?),
     })
 }
 
@@ -58,7 +59,7 @@ fn purged_answer(alloc: Global, gtids: &GtidSet) -> Result<Answer, AllocError>
     let line = render_required(alloc, gtids)?;
     Ok(Answer {
         outcome: Outcome::Refused,
-        text: with_line_feed(line)?,
+        text: Text::of(alloc, with_line_feed(line)?),
     })
 }
 
@@ -69,7 +70,7 @@ fn more_answer(alloc: Global, gtids: &GtidSet) -> Result<Answer, AllocError>
     let line = render_more(alloc, gtids)?;
     Ok(Answer {
         outcome: Outcome::Refused,
-        text: with_line_feed(line)?,
+        text: Text::of(alloc, with_line_feed(line)?),
     })
 }
 

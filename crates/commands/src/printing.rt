@@ -4,6 +4,7 @@ ghost use Rattle.std.specs.Thread.{IsSync};
 ghost use Rattle.rows.specs.Listing.{all_shown, rows_of};
 ghost use Rattle.gtid_report.specs.State.{row_line};
 
+use crate::pieces::Text;
 use gtid_report::render_lent_rows;
 use rows::{Key, Row};
 use std::alloc::{AllocError, Global};
@@ -13,36 +14,36 @@ use std::thread::{Threads, join};
 const LEAST_ROWS: usize = 8_192;
 
 /// A text, and behind it the line of each row, in the order of the list. So many halves of halves of the list are printed by threads of
-/// their own, where they can be started.
+/// their own, where they can be started. What each prints is a piece of its own.
 pub(crate) fn render_beside<R: Threads + Sync>(
     rt: &R,
     alloc: Global,
     text: String,
     list: &[(&Key, &Row)],
     halvings: u8,
-) -> Result<String, AllocError>
-    ensures { IfOk result (λ all. string_bytes all ≡ string_bytes text ++ flat_map row_line (rows_of (all_shown list.now))) }
+) -> Result<Text, AllocError>
+    ensures { IfOk result (λ all. all ≡ string_bytes text ++ flat_map row_line (rows_of (all_shown list.now))) }
 {
     if halvings == 0 || list.len() < LEAST_ROWS {
         let mut text = text;
         render_lent_rows(&mut text, list)?;
-        return Ok(text);
+        return Ok(Text::of(alloc, text));
     }
     let left = halvings - 1;
     let (front, back) = list.split_at(list.len() / 2);
     let (first, second) = join(
         rt,
-        move || -> Result<String, AllocError>
+        move || -> Result<Text, AllocError>
             requires { IsSync R.row }
-            ensures { IfOk result (λ all. string_bytes all ≡ string_bytes text ++ flat_map row_line (rows_of (all_shown front.entry.now))) }
+            ensures { IfOk result (λ all. all ≡ string_bytes text ++ flat_map row_line (rows_of (all_shown front.entry.now))) }
         { render_beside(rt, alloc, text, front, left) },
-        || -> Result<String, AllocError>
+        || -> Result<Text, AllocError>
             requires { IsSync R.row }
-            ensures { IfOk result (λ all. string_bytes all ≡ flat_map row_line (rows_of (all_shown back.entry.now))) }
+            ensures { IfOk result (λ all. all ≡ flat_map row_line (rows_of (all_shown back.entry.now))) }
         { render_beside(rt, alloc, String::new(alloc), back, left) },
     );
     let mut all = first?;
     let rest = second?;
-    all.push_str(&rest)?;
+    all.append(rest)?;
     Ok(all)
 }

@@ -7,6 +7,7 @@ ghost use Rattle.commands.specs.SetCommand.{printed_set, printed_set_over, set_a
 
 use crate::answer::{Answer, refusal_text, with_line_feed};
 use crate::edge::{Outcome, RunFault, Sink, Source};
+use crate::pieces::Text;
 use crate::streams::Streams;
 use gtid_report::{Fault, Refusal, set_function};
 use std::alloc::{AllocError, Global};
@@ -28,12 +29,12 @@ fn set_answer(alloc: Global, function: &str, a: &str, b: Option<&str>) -> Result
     match set_function(alloc, function, a, b) {
         Ok(line) => Ok(Answer {
             outcome: Outcome::Done,
-            text: with_line_feed(line)?,
+            text: Text::of(alloc, with_line_feed(line)?),
         }),
         Err(Fault::Memory) => Err(AllocError),
         Err(Fault::Refused(refusal)) => Ok(Answer {
             outcome: refusal_ending(&refusal),
-            text: refusal_text(alloc, &refusal)?,
+            text: Text::of(alloc, refusal_text(alloc, &refusal)?),
         }),
     }
 }

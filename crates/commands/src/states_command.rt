@@ -7,6 +7,7 @@ ghost use Rattle.commands.specs.States.{printed_text, IsStatesAnswer};
 
 use crate::answer::{Answer, refusal_answer};
 use crate::edge::{Outcome, RunFault, Sink, Source};
+use crate::pieces::Text;
 use crate::streams::Streams;
 use gtid_report::Fault;
 use server_states::states;
@@ -19,7 +20,7 @@ fn text_answer(alloc: Global, text: &str) -> Result<Answer, AllocError>
     match states(alloc, text) {
         Ok(text) => Ok(Answer {
             outcome: Outcome::Done,
-            text,
+            text: Text::of(alloc, text),
         }),
         Err(Fault::Memory) => Err(AllocError),
         Err(Fault::Refused(refusal)) => refusal_answer(alloc, &refusal),

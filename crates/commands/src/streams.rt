@@ -1,5 +1,5 @@
 //! The reader and the writer of a command.
-ghost use Rattle.std.specs.Prelude.{◌≡◌, IfOk, IfErr, OnOk, OnErr, string_bytes};
+ghost use Rattle.std.specs.Prelude.{◌≡◌, IfOk, IfErr, OnOk, OnErr};
 ghost use Rattle.std.specs.Io.KnownBytes.{Appends};
 ghost use Rattle.commands.specs.Edge.{input_of, output_of, one_more, Begins, HasRead, ReadFault};
 ghost use Rattle.commands.specs.Texts.{HasAllCome, HasFound};
@@ -88,13 +88,13 @@ impl<S: Source, W: Sink> Streams<S, W> {
     /// Writes an answer.
     pub(crate) fn send(&mut self, answer: &Answer) -> Result<Outcome, RunFault>
         ensures input { self.new.input ≡ self.old.input }
-        ensures done { OnOk result (Appends self.old.output.written self.new.output.written (string_bytes answer.now.text)) }
+        ensures done { OnOk result (Appends self.old.output.written self.new.output.written answer.now.text) }
         ensures ends { IfOk result (λ outcome. outcome ≡ answer.now.outcome) }
         ensures write { IfErr result (λ f. f ≡ RunFault.Write) }
-        ensures begins { OnErr result (Begins self.old.output.written self.new.output.written (string_bytes answer.now.text)) }
+        ensures begins { OnErr result (Begins self.old.output.written self.new.output.written answer.now.text) }
         ensures counted { OnErr result (self.new.output.failed ≡ one_more self.old.output.failed) }
     {
-        match self.writer.write(answer.text.as_bytes()) {
+        match answer.text.write_to(&mut self.writer) {
             Ok(()) => Ok(answer.outcome),
             Err(_) => Err(RunFault::Write),
         }

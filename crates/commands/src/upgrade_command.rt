@@ -5,6 +5,7 @@ ghost use Rattle.commands.specs.Bundles.{Upgrades, upgrade_answer};
 
 use crate::answer::Answer;
 use crate::edge::{Outcome, RunFault, Sink, Source};
+use crate::pieces::Text;
 use crate::request::{Request, run};
 use crate::streams::Streams;
 use crate::text::OldBundle;
@@ -23,7 +24,7 @@ impl Request for Upgrade {
     fn answer(&self, alloc: Global, old: &OldBundle) -> Result<Answer, Fault> {
         Ok(Answer {
             outcome: Outcome::Done,
-            text: bundle_text_v2(alloc, &old.bundle)?,
+            text: Text::of(alloc, bundle_text_v2(alloc, &old.bundle)?),
         })
     }
 }

@@ -5,6 +5,7 @@ ghost use Rattle.commands.specs.Version.{printed_version};
 
 use crate::answer::Answer;
 use crate::edge::{Outcome, RunFault, Sink, Source};
+use crate::pieces::Text;
 use crate::streams::Streams;
 use std::alloc::{AllocError, Global};
 
@@ -14,7 +15,7 @@ fn version_answer(alloc: Global) -> Result<Answer, AllocError>
 {
     Ok(Answer {
         outcome: Outcome::Done,
-        text: String::from_str(alloc, "gtidrep 0.9.0\n")?,
+        text: Text::of(alloc, String::from_str(alloc, "gtidrep 0.9.0\n")?),
     })
 }
 

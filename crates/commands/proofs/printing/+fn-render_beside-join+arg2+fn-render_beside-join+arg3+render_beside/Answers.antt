@@ -1,4 +1,4 @@
-use Rattle.std.proofs.Common.{◌++◌, List, ℕ, string_bytes, sym, ap, ◌∙◌}
+use Rattle.std.proofs.Common.{◌++◌, sym, ◌∙◌}
 use Rattle.std.proofs.lemmas.List.{take-append-drop}
 use Rattle.std.proofs.lemmas.Result.{IfOk-at_ok}
 use Rattle.commands.proofs.RowLines.{both_printed}
@@ -10,4 +10,4 @@ returns g t c =
     (sym (take-append-drop _ c.args.list.now) ∙ (λ i. sym c.split_at.ensures.front i ++ sym c.split_at.ensures.back i))
     (IfOk-at_ok _ c.in_ok-all.was c.join-first.ensures.first)
     (IfOk-at_ok _ c.in_ok-rest.was c.join-first.ensures.second)
-    (c.in_ok-push_str.ensures.bytes ∙ ap (λ (t : List ℕ). string_bytes c.in_ok-all.all ++ t) c.deref.ensures)
+    c.in_ok-append.ensures.ok
