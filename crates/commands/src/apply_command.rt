@@ -15,13 +15,11 @@ use crate::answer::Answer;
 use crate::audit_command::verdict_answer;
 use crate::bundle_reading::read_bundle;
 use crate::edge::{Outcome, RunFault, Sink, Source};
-use crate::parallel::apply_journals;
 use crate::pieces::Text;
 use crate::printing::render_beside;
 use crate::request::{Request, answer_decoded, run};
 use crate::side_by_side::serve_beside;
 use crate::streams::Streams;
-use applier::{Gate, NoGate};
 use gtid_report::{Fault, render_executed, render_state};
 use gtid_set::GtidSet;
 use journal::{Entry, Journal};
@@ -32,7 +30,6 @@ use serving::{Order, StateOrVerdict, serve};
 use source_shares::{Merged, merge_by_shares};
 use std::alloc::{AllocError, Global};
 use std::mem;
-use std::sync::Wait;
 use std::thread::Threads;
 use txn_journal::Bundle;
 use world::Verdict;
@@ -169,8 +166,8 @@ fn apply_by_shares<R: Threads + Sync>(
     Ok(Some(answer?))
 }
 
-/// What a bundle of small transactions results in with two workers and more: by shares of its sources, or else beside the audit.
-fn apply_small<R: Threads + Sync>(
+/// What a bundle results in with two workers and more: by shares of its sources, or else beside the audit.
+fn apply_side_by_side<R: Threads + Sync>(
     rt: &R,
     alloc: Global,
     bundle: &Bundle,
@@ -190,73 +187,20 @@ fn apply_small<R: Threads + Sync>(
     apply_beside(rt, alloc, bundle, order)
 }
 
-/// What a bundle results in where workers apply it. What they leave is left to the end of the process.
-fn apply_together<G: Gate + Sync, R: Threads + Wait + Sync>(
-    rt: &R,
-    alloc: Global,
-    bundle: &Bundle,
-    order: Order,
-    workers: u8,
-    gate: &G,
-) -> Result<Answer, Fault>
-    requires can { IsServable bundle.now }
-    requires workers { (1 ≤ workers) × (workers ≤ 64) }
-    ensures comes { IfOk result (λ answer. Holds answer (apply_answer order bundle.now)) }
-    ensures fault { IfErr result (GivesUp (IsBundleFault bundle.now)) }
-{
-    match apply_journals(rt, alloc, bundle, order, workers, gate)? {
-        StateOrVerdict::State(book) => {
-            let answer = state_answer(alloc, book.state());
-            mem::forget(book);
-            Ok(answer?)
-        }
-        StateOrVerdict::Verdict(verdict) => {
-            let answer = unsound_answer(alloc, order, bundle, &verdict);
-            mem::forget(verdict);
-            Ok(answer?)
-        }
-    }
-}
-
-/// How many changes a transaction has at least, on average, where sharing a replica pays.
-const LEAST_SHARED: usize = 4_096;
-
-/// How many changes entries have together.
-fn count_changes(entries: &[Entry]) -> usize {
-    let mut count: usize = 0;
-    for entry in entries {
-        count = count.saturating_add(entry.txn.changes.as_slice().len());
-    }
-    count
-}
-
-/// Whether the transactions of journals have fewer changes than `LEAST_SHARED` on average.
-fn are_small(journals: &[Journal]) -> bool {
-    let mut changes: usize = 0;
-    let mut entries: usize = 0;
-    for journal in journals {
-        changes = changes.saturating_add(count_changes(journal.entries()));
-        entries = entries.saturating_add(journal.entries().len());
-    }
-    changes / LEAST_SHARED < entries
-}
-
 /// What a bundle results in: the same for every number of workers and every order of their steps. One
 /// worker is the calling thread. With more, threads apply shares of the sources, where these share no key and one pass over the
-/// journals shows it; else a second thread audits the keys while the first serves the journals and applies what it receives. Where
-/// transactions have 4,096 changes and more on average so many
-/// workers apply them, once all are received, and these alone pass the gate: with smaller ones receiving
-/// all first takes longer than applying each at once. The bundle can be served, as each that was read can.
+/// journals shows it; else a second thread audits the keys while the first serves the journals and applies what it receives. (No
+/// workers share a replica here, as those of `apply_journals` do: that was slower wherever it was measured.) The bundle can be served,
+/// as each that was read can.
 /// A refusal is `SourcesFull`, where the GTIDs of all journals together are of more than 65,536 sources, or
 /// `PoolFull`, where the intervals of the opening set and of the previous sets and the entries are together
 /// more than 4,294,967,294.
-pub fn apply_decoded<G: Gate + Sync, R: Threads + Wait + Sync>(
+pub fn apply_decoded<R: Threads + Sync>(
     rt: &R,
     alloc: Global,
     bundle: &Bundle,
     order: Order,
     workers: u8,
-    gate: &G,
 ) -> Result<Answer, Fault>
     requires can { IsServable bundle.now }
     requires workers { (1 ≤ workers) × (workers ≤ 64) }
@@ -265,22 +209,20 @@ pub fn apply_decoded<G: Gate + Sync, R: Threads + Wait + Sync>(
 {
     if workers == 1 {
         apply_alone(alloc, bundle, order)
-    } else if are_small(bundle.journals()) {
-        apply_small(rt, alloc, bundle, order, workers)
     } else {
-        apply_together(rt, alloc, bundle, order, workers, gate)
+        apply_side_by_side(rt, alloc, bundle, order, workers)
     }
 }
 
 /// A bundle is applied by so many workers, 1 to 64.
 #[derive(Drop)]
-struct Apply<'a, R: Threads + Wait + Sync> {
+struct Apply<'a, R: Threads + Sync> {
     threads: &'a R,
     order: Order,
     workers: u8,
 }
 
-impl<'a, R: Threads + Wait + Sync> Request for Apply<'a, R> {
+impl<'a, R: Threads + Sync> Request for Apply<'a, R> {
     type Value = Bundle;
 
     ghost ready = { λ asked. (1 ≤ asked.workers) × (asked.workers ≤ 64) × IsSync R.row };
@@ -296,7 +238,6 @@ impl<'a, R: Threads + Wait + Sync> Request for Apply<'a, R> {
             bundle,
             self.order,
             self.workers,
-            &NoGate,
         )
     }
 }
@@ -304,7 +245,7 @@ impl<'a, R: Threads + Wait + Sync> Request for Apply<'a, R> {
 /// Reads a bundle, and writes the state in which all its journals are executed, or the line of the
 /// verdict of the audit that asks for this order, where that is not Sound, or the line of its refusal, and nothing else.
 /// With two workers and more, the lines of the bundle are parsed by threads too, while what follows is read.
-pub fn apply_bundle<S: Source + Send, W: Sink, R: Threads + Wait + Sync>(
+pub fn apply_bundle<S: Source + Send, W: Sink, R: Threads + Sync>(
     rt: &R,
     alloc: Global,
     order: Order,

@@ -31,7 +31,6 @@ use commands::{
 use std::env;
 use std::io::{self, ErrorKind};
 use std::process::ExitCode;
-use std::sync::Wait;
 use std::thread::Threads;
 
 /// The words after the program's name. What `env::args` refuses but for memory is a word that is not
@@ -49,7 +48,7 @@ fn read_words(rt: &HostRuntime) -> Result<Vec<String>, CommandFault> {
 }
 
 /// Runs a command over these streams.
-fn run_over<T: Threads + Wait + Sync, S: Source + Send, W: Sink>(
+fn run_over<T: Threads + Sync, S: Source + Send, W: Sink>(
     rt: &HostRuntime,
     threads: &T,
     command: Command,
@@ -81,7 +80,7 @@ fn run_over<T: Threads + Wait + Sync, S: Source + Send, W: Sink>(
 }
 
 /// Runs a command over standard input and standard output.
-fn run_command<T: Threads + Wait + Sync>(
+fn run_command<T: Threads + Sync>(
     rt: &HostRuntime,
     threads: &T,
     command: Command,
@@ -93,7 +92,7 @@ fn run_command<T: Threads + Wait + Sync>(
 }
 
 /// Runs the command that the words name.
-fn run<T: Threads + Wait + Sync>(rt: &HostRuntime, threads: &T, words: &[String]) -> Ending {
+fn run<T: Threads + Sync>(rt: &HostRuntime, threads: &T, words: &[String]) -> Ending {
     match parse_line(rt.alloc(), words) {
         Ok(command) => Ending::Ran(run_command(rt, threads, command)),
         Err(fault) => Ending::NoCommand(fault),
