@@ -232,13 +232,7 @@ impl<'a, R: Threads + Sync> Request for Apply<'a, R> {
     ghost may_fail = { λ _ b. IsBundleFault b };
 
     fn answer(&self, alloc: Global, bundle: &Bundle) -> Result<Answer, Fault> {
-        apply_decoded(
-            self.threads,
-            alloc,
-            bundle,
-            self.order,
-            self.workers,
-        )
+        apply_decoded(self.threads, alloc, bundle, self.order, self.workers)
     }
 }
 

@@ -57,7 +57,7 @@ bundle_begins s cs word g part spelled h =
     let line = codes "txn " ++ word in
     ap (λ (p : Part). judge_part p true s line) part
     ∙ plain_taken s s.bundle.start.schema (begun s.draft g) line (ap (λ (p : Place). is_within p && false) h.place) refl
-        (begins s.bundle.start.schema s.draft word g spelled h.place h.version h.number h.room h.unseen) refl
+    (begins s.bundle.start.schema s.draft word g spelled h.place h.version h.number h.room h.unseen) refl
 
 -- ---- the changes
 
@@ -87,6 +87,7 @@ holds_all s (l ∷ ls) (c ∷ cs) part within h few writable fit =
   where
     room_now : (n m : ℕ) → nat_le (n + suc m) 65536 ≡ true → nat_le 65536 n ≡ false
     room_now n m e = grind arith
+
     room_next : (xs : List Change) (x : Change) (m : ℕ) → nat_le (length xs + suc m) 65536 ≡ true → nat_le (length (xs ++ x ∷ []) + m) 65536 ≡ true
     room_next xs x m e = ap (λ (k : ℕ). nat_le k 65536) (omega (arith, length_push xs x)) ∙ e
 
@@ -111,7 +112,7 @@ entry_made s text g cs part one h may =
     let few : nat_le (length s.draft.changes + length cs) 65536 ≡ true = ap (λ (xs : List Change). nat_le (length xs + length cs) 65536) may.nothing_open ∙ ap (λ (k : ℕ). nat_le k 65536) (none_before (length cs)) ∙ w.0 in
     let held = holds_all opened h.within cs part refl h.lines few w.1 may.fit in
     let closed : judge_bundle (holding opened cs) last ≡ done (with_draft s (with_entry s.draft g cs)) =
-        ends (holding opened cs) part one refl refl ∙ ap (λ (xs : List Change). done (with_draft s (close_entry (record (begun s.draft g) { changes = xs ++ cs })))) may.nothing_open in
+    ends (holding opened cs) part one refl refl ∙ ap (λ (xs : List Change). done (with_draft s (close_entry (record (begun s.draft g) { changes = xs ++ cs })))) may.nothing_open in
     record {
       lines = first ∷ (h.within ++ last ∷ []);
       parts = h.parts;
@@ -120,9 +121,8 @@ entry_made s text g cs part one h may =
       made =
           ap (λ (r : Result BundleStanding Cause). r >>= λ t. judge_all judge_bundle t (h.within ++ last ∷ [])) (bundle_begins s cs h.word g part h.gtid_is may)
           ∙ all_append judge_bundle opened (holding opened cs) (done (with_draft s (with_entry s.draft g cs))) h.within (last ∷ []) held
-              (ap (λ (r : Result BundleStanding Cause). r >>= λ t. done t) closed);
+          (ap (λ (r : Result BundleStanding Cause). r >>= λ t. done t) closed);
     }
-
   where
     none_before : (n : ℕ) → length {A = Change} [] + n ≡ n
     none_before n = omega arith

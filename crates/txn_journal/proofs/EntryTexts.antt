@@ -67,9 +67,9 @@ entry_in text lines after g cs b h =
     let end = codes "end" in
     b.parts
     ∙ ap (λ (t : List ℕ). begin ++ 10 ∷ t)
-        (h.parts
-        ∙ sym (append_assoc (ended h.within) (end ++ 10 ∷ []) after)
-        ∙ ap (λ (t : List ℕ). t ++ after) (sym (ended_append h.within (end ∷ []))))
+    (h.parts
+    ∙ sym (append_assoc (ended h.within) (end ++ 10 ∷ []) after)
+    ∙ ap (λ (t : List ℕ). t ++ after) (sym (ended_append h.within (end ∷ []))))
     ∙ sym (append_assoc begin (10 ∷ ended (h.within ++ end ∷ [])) after)
 
 pub is_entry : (text lines after front : List ℕ) (g : Gtid) (cs : List Change) → BeginsWithGtid text g lines → BeginsWithChanges lines cs after → ((t : List ℕ) → text ≡ t ++ after → front ≡ t) → IsEntryText front g cs × (text ≡ front ++ after)
@@ -94,9 +94,9 @@ eats_lines {S} judge s t n (l ∷ ls) whole fits made =
     ap (feed_bytes judge (Reading s n [])) (sym (append_assoc l (10 ∷ []) (ended ls)))
     ∙ eats_append judge (Reading s n []) (l ++ 10 ∷ []) (ended ls)
     ∙ ap (λ (p : Progress S). feed_bytes judge p (ended ls))
-        (eats_line judge s n [] l whole.0
-        ∙ ap (λ (r : Result S Cause). progress_after r (next_number n)) a.1
-        ∙ ap (λ (m : ℕ). Reading a.0 m []) (next_is n (omega (arith, fits))))
+    (eats_line judge s n [] l whole.0
+    ∙ ap (λ (r : Result S Cause). progress_after r (next_number n)) a.1
+    ∙ ap (λ (m : ℕ). Reading a.0 m []) (next_is n (omega (arith, fits))))
     ∙ eats_lines judge a.0 t (n + 1) ls whole.1 (omega (arith, fits)) a.2
     ∙ ap (λ (m : ℕ). Reading t m []) (omega arith)
 

@@ -736,7 +736,10 @@ impl Draft {
     fn may_follow(&self, schema: &Schema, gtid: &Gtid, changes: &Changes) -> bool
         ensures { result ≡ true → MayFollow schema.now (standing self.now) gtid.now changes.now }
     {
-        if self.place != Place::Between || self.version != Version::One || !self.changes.is_empty() {
+        if self.place != Place::Between
+            || self.version != Version::One
+            || !self.changes.is_empty()
+        {
             return false;
         }
         if !is_number(gtid.number) || self.count >= MAX_ENTRIES || self.seen.contains(gtid) {

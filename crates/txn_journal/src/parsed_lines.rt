@@ -127,11 +127,7 @@ fn change_of(names: &mut Names, alloc: Global, line: &[u8]) -> Result<Option<Cha
 }
 
 /// The GTID of the line that begins an entry of version 1 and a text, and what follows that line.
-fn gtid_at<'a>(
-    alloc: Global,
-    near: &mut NearSources,
-    text: &'a [u8],
-) -> Option<(Gtid, &'a [u8])>
+fn gtid_at<'a>(alloc: Global, near: &mut NearSources, text: &'a [u8]) -> Option<(Gtid, &'a [u8])>
     ensures { IfSome result (λ r. BeginsWithGtid text.now r.0 r.1.now) }
 {
     let (line, after) = cut_line(text)?;
@@ -294,9 +290,13 @@ impl<'a> ParsedLines<'a> {
         let mut items = VecDeque::new(alloc);
         let mut rest = text;
         'items: loop {
-            let Some((item, after)) =
-                ParsedItem::at(alloc, &mut names, &mut near, &mut changes, rest)
-            else {
+            let Some((item, after)) = ParsedItem::at(
+                alloc,
+                &mut names,
+                &mut near,
+                &mut changes,
+                rest,
+            ) else {
                 break;
             };
             let Ok(()) = items.push_back(item) else {

@@ -18,6 +18,6 @@ returns c =
     let one : s.version ≡ One = search rules in
     let parts = c.into_parts-gtid in
     let joined : JoinsEntry c.schema.result.now c.join_whole.result e.gtid e.changes (standing c.args.self.now.draft) (standing c.join_whole.new.self) =
-        subst (λ (g : Gtid). JoinsEntry c.schema.result.now c.join_whole.result g e.changes (standing c.args.self.now.draft) (standing c.join_whole.new.self)) parts.ensures.gtid
-        (subst (λ (cs : List Change). JoinsEntry c.schema.result.now c.join_whole.result parts.result.0 cs (standing c.args.self.now.draft) (standing c.join_whole.new.self)) parts.ensures.changes c.join_whole.ensures) in
+    subst (λ (g : Gtid). JoinsEntry c.schema.result.now c.join_whole.result g e.changes (standing c.args.self.now.draft) (standing c.join_whole.new.self)) parts.ensures.gtid
+    (subst (λ (cs : List Change). JoinsEntry c.schema.result.now c.join_whole.result parts.result.0 cs (standing c.args.self.now.draft) (standing c.join_whole.new.self)) parts.ensures.changes c.join_whole.ensures) in
     entry_taken s c.schema.result.now c.join_whole.result e.text e.gtid e.changes (standing c.join_whole.new.self) part one parts.ensures.spelled c.schema.ensures joined
