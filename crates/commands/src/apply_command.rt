@@ -166,7 +166,8 @@ fn apply_by_shares<R: Threads + Sync>(
     Ok(Some(answer?))
 }
 
-/// What a bundle results in with two workers and more: by shares of its sources, or else beside the audit.
+/// What a bundle results in with two workers and more: by shares of its sources, where these may share no key, or else by one thread; where
+/// they may share keys, beside the audit.
 fn apply_side_by_side<R: Threads + Sync>(
     rt: &R,
     alloc: Global,
@@ -180,18 +181,19 @@ fn apply_side_by_side<R: Threads + Sync>(
     ensures fault { IfErr result (GivesUp (IsBundleFault bundle.now)) }
 {
     if let Order::BySource = order {
-        if let Some(answer) = apply_by_shares(rt, alloc, bundle, workers)? {
-            return Ok(answer);
-        }
+        return match apply_by_shares(rt, alloc, bundle, workers)? {
+            Some(answer) => Ok(answer),
+            None => apply_alone(alloc, bundle, order),
+        };
     }
     apply_beside(rt, alloc, bundle, order)
 }
 
 /// What a bundle results in: the same for every number of workers and every order of their steps. One
 /// worker is the calling thread. With more, threads apply shares of the sources, where these share no key and one pass over the
-/// journals shows it; else a second thread audits the keys while the first serves the journals and applies what it receives. (No
-/// workers share a replica here, as those of `apply_journals` do: that was slower wherever it was measured.) The bundle can be served,
-/// as each that was read can.
+/// journals shows it; by `ByConflict` a second thread audits the keys while the first serves the journals and applies what it receives.
+/// (No workers share a replica here, as those of `apply_journals` do, and where the shares give nothing one thread goes on alone:
+/// more were slower wherever it was measured.) The bundle can be served, as each that was read can.
 /// A refusal is `SourcesFull`, where the GTIDs of all journals together are of more than 65,536 sources, or
 /// `PoolFull`, where the intervals of the opening set and of the previous sets and the entries are together
 /// more than 4,294,967,294.

@@ -15,9 +15,10 @@
 //! and whichever allocations were refused. The proof uses the history alone: it is a run of takes, commits and rollbacks, and
 //! `conclude` of `serving` does the rest. Where the history cannot be closed, a replica is served anew on one thread.
 //!
-//! `apply_decoded` chooses by the number of workers: one thread; threads that apply shares of the sources; or, where these share a key, a
-//! second thread that audits the keys beside the serving, which only read the bundle both. The commands never call `apply_journals`,
-//! whose workers share a replica: it was slower than one thread wherever it was measured.
+//! `apply_decoded` chooses by the number of workers and the order: one thread; threads that apply shares of the sources, and one thread
+//! where these share a key; or, where sources may share keys, a second thread that audits the keys beside the serving, which only read the
+//! bundle both. The commands never call `apply_journals`, whose workers share a replica: it was slower than one thread wherever it
+//! was measured.
 //!
 //! Not proved: that workers do anything (what they leave is drained), and speed. A call that a signal interrupts is made again, up to
 //! 1,000 times.
