@@ -20,7 +20,7 @@ use Rattle.rows.proofs.Equal.{key_test, keys-Decide}
 use Rattle.rows.proofs.Hashed.{same_tests, keys_equiv, hashed_at}
 use Rattle.rows.proofs.Primary.{alike}
 use Rattle.rows.proofs.Stored.{find_key}
-use Rattle.row_parts.specs.Listing.{entries_before}
+use Rattle.row_parts.specs.Listing.{joined_before}
 
 abbrev pub Entry : Type 0
 Entry = Key × List Value
@@ -156,19 +156,19 @@ append_apart (x ∷ xs) ys dx dy h = (
 last_or : (i n : ℕ) → i < suc n → (i < n) ⊎ (i ≡ n)
 last_or i n l = grind arith
 
-pub from_before : (entries : ℕ → List Entry) (q : Key) (n : ℕ) (r : List Value) → row_under q (entries_before entries n) ≡ Some r → (i : ℕ) × (i < n) × (row_under q (entries i) ≡ Some r)
+pub from_before : (entries : ℕ → List Entry) (q : Key) (n : ℕ) (r : List Value) → row_under q (joined_before entries n) ≡ Some r → (i : ℕ) × (i < n) × (row_under q (entries i) ≡ Some r)
 from_before entries q zero r e = absurd (none-some r e)
 from_before entries q (suc n) r e =
     let earlier = from_before entries q n r in
-    elim (or_some (row_under q (entries_before entries n)) (row_under q (entries n)) r (sym (under_append q (entries_before entries n) (entries n)) ∙ e)) [
+    elim (or_some (row_under q (joined_before entries n)) (row_under q (entries n)) r (sym (under_append q (joined_before entries n) (entries n)) ∙ e)) [
       | inl h ↦ let f = earlier h in let l = f.1 in (f.0, omega (l, arith), f.2)
       | inr h ↦ (n, omega arith, h)
     ]
 
-pub none_before : (entries : ℕ → List Entry) (q : Key) (n : ℕ) → row_under q (entries_before entries n) ≡ None → (i : ℕ) → i < n → row_under q (entries i) ≡ None
+pub none_before : (entries : ℕ → List Entry) (q : Key) (n : ℕ) → row_under q (joined_before entries n) ≡ None → (i : ℕ) → i < n → row_under q (entries i) ≡ None
 none_before entries q zero e i l = absurd (omega (l, arith))
 none_before entries q (suc n) e i l =
-    let p = or_none (row_under q (entries_before entries n)) (row_under q (entries n)) (sym (under_append q (entries_before entries n) (entries n)) ∙ e) in
+    let p = or_none (row_under q (joined_before entries n)) (row_under q (entries n)) (sym (under_append q (joined_before entries n) (entries n)) ∙ e) in
     let earlier = none_before entries q n p.0 i in
     elim (last_or i n l) [
       | inl m ↦ earlier m
@@ -179,10 +179,10 @@ none_before entries q (suc n) e i l =
 abbrev pub NoneInTwo : (ℕ → List Entry) → ℕ → Type 0
 NoneInTwo entries n = (i j : ℕ) → i < j → j < n → NoneInBoth (entries i) (entries j)
 
-pub before_apart : (entries : ℕ → List Entry) (n : ℕ) → ((i : ℕ) → IsDistinct key_test (keys_of (entries i))) → NoneInTwo entries n → IsDistinct key_test (keys_of (entries_before entries n))
+pub before_apart : (entries : ℕ → List Entry) (n : ℕ) → ((i : ℕ) → IsDistinct key_test (keys_of (entries i))) → NoneInTwo entries n → IsDistinct key_test (keys_of (joined_before entries n))
 unfolding IsDistinct
 before_apart entries zero d h = tt
 before_apart entries (suc n) d h =
-    append_apart (entries_before entries n) (entries n)
+    append_apart (joined_before entries n) (entries n)
     (before_apart entries n d (λ i j l m. h i j l (omega (m, arith)))) (d n)
     (λ q a b f g. let w = from_before entries q n a f in h w.0 n w.1 (omega arith) q a b w.2 g)

@@ -4,7 +4,8 @@ use Rattle.std.specs.Prelude.{slice_get, IsPermutation}
 use Rattle.std.proofs.lemmas.List.{take-append-drop, length-map}
 use Rattle.std.proofs.lemmas.Option.{slice_get_cases, slice_get-map}
 use Rattle.std.proofs.lemmas.List.Sorted.{IsPermutation-refl, IsPermutation-append, IsPermutation-append_comm, IsPermutation-trans}
-use Rattle.row_parts.specs.Ranges.{Shown, IsRange, joined_before, shown_in, cut_from, left_of, range_of, range_in, ranges_at, shown_at}
+use Rattle.row_parts.specs.Listing.{joined_before}
+use Rattle.row_parts.specs.Ranges.{Shown, IsRange, shown_in, cut_from, left_of, range_of, range_in, ranges_at, shown_at}
 use Rattle.row_parts.specs.declared.listing.Listed.{Listed}
 use Rattle.std.specs.declared.alloc.AllocError.{AllocError}
 use Rattle.std.specs.Option.{option_map}

@@ -11,8 +11,8 @@ use Rattle.std.proofs.lemmas.Option.{slice_get-map, slice_get_cases, slice_get_w
 use Rattle.row_images.specs.declared.value.Value.{Value}
 use Rattle.rows.specs.declared.change.Key.{Key}
 use Rattle.rows.specs.Listing.{all_shown}
-use Rattle.row_parts.specs.Listing.{entries_before}
-use Rattle.row_parts.specs.Ranges.{AreListedAt, joined_before, shown_at, shown_in}
+use Rattle.row_parts.specs.Listing.{joined_before}
+use Rattle.row_parts.specs.Ranges.{AreListedAt, shown_at, shown_in}
 use Rattle.row_parts.specs.declared.listing.Listed.{Listed}
 
 abbrev Shown : Type 0
@@ -56,7 +56,7 @@ each_at entries lists found is h i list at =
     subst (λ r. IfOk r (λ f. all_shown f.entries.items ≡ entries i)) (get_or_from_slice_get found i (made list) (made list) here) (h i (made list) (slice_get_within found i (made list) here))
 
 -- all of them, one after another
-pub all_at : (entries : ℕ → List (Key × List Value)) (lists : List Listed) (n : ℕ) → AreListedAt entries lists → n ≤ length lists → all_shown (joined_before (shown_at lists) n) ≡ entries_before entries n
+pub all_at : (entries : ℕ → List (Key × List Value)) (lists : List Listed) (n : ℕ) → AreListedAt entries lists → n ≤ length lists → all_shown (joined_before (shown_at lists) n) ≡ joined_before entries n
 all_at entries lists zero are fits = refl
 all_at entries lists (suc n) are fits =
     let w = elim (slice_get_cases lists n).1 as (λ _. (l : Listed) × (slice_get lists n ≡ Some l)) [

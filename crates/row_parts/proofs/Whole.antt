@@ -22,7 +22,7 @@ use Rattle.rows.specs.Patch.{same_row}
 use Rattle.rows.proofs.Equal.{key_test}
 use Rattle.rows.proofs.Ordered.{keys_sorted, sorted_entries}
 use Rattle.rows.proofs.Primary.{alike, rows-retained}
-use Rattle.row_parts.specs.Listing.{changed_entries, kept_entries, entries_of, entries_at, entries_before}
+use Rattle.row_parts.specs.Listing.{changed_entries, kept_entries, entries_of, entries_at, joined_before}
 use Rattle.row_parts.proofs.Apart.{row_under, none_if, same_option, filter_some, listed_apart, under_listed, under_filter, from_before, none_before, before_apart}
 
 -- ---- tests
@@ -170,11 +170,11 @@ module _ (opening : Rows) (parts : List Rows) (whole : Rows) (are : AreParts ope
   none_where true o h = h refl
   none_where false o h = refl
 
-  under_all : (q : Key) → row_under q (entries_before (entries_at opening parts) (length parts + 1)) ≡ get (retain_keys whole is_primary) q
+  under_all : (q : Key) → row_under q (joined_before (entries_at opening parts) (length parts + 1)) ≡ get (retain_keys whole is_primary) q
   under_all q =
       let n = length parts + 1 in
       let entries = entries_at opening parts in
-      same_option (row_under q (entries_before entries n)) (cond (is_primary q) (get whole q) None)
+      same_option (row_under q (joined_before entries n)) (cond (is_primary q) (get whole q) None)
       (λ r e.
       let w = from_before entries q n r e in
       let h = listed_in_whole w.0 (slice_get parts w.0) q r refl w.2 in
@@ -183,10 +183,10 @@ module _ (opening : Rows) (parts : List Rows) (whole : Rows) (are : AreParts ope
       ∙ sym (get-retain_keys whole is_primary q (alike q))
 
   -- The lists one after another, sorted, are the list of the whole.
-  pub whole_listed : (before after : List (Bor Key × Bor (List Value))) → all_shown before ≡ entries_before (entries_at opening parts) (length parts + 1) → IsPermutation before after → IsSortedByKey key_shown key_cmp after
+  pub whole_listed : (before after : List (Bor Key × Bor (List Value))) → all_shown before ≡ joined_before (entries_at opening parts) (length parts + 1) → IsPermutation before after → IsSortedByKey key_shown key_cmp after
       → rows_of (all_shown after) ≡ rows_listed whole
   whole_listed before after e p s =
-      let all = entries_before (entries_at opening parts) (length parts + 1) in
+      let all = joined_before (entries_at opening parts) (length parts + 1) in
       let apart : IsDistinct key_test (keys_of all) = before_apart (entries_at opening parts) (length parts + 1) (λ i. each_apart (slice_get parts i)) places_apart in
       let moved : IsPermutation all (all_shown after) = subst (λ l. IsPermutation l (all_shown after)) e (IsPermutation-map deref_pair before after p) in
       ap rows_of (sorted_entries all (all_shown after) (retain_keys whole is_primary) apart moved (keys_sorted after s) under_all) ∙ rows-retained whole

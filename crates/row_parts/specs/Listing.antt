@@ -30,7 +30,7 @@ entries_of opening parts None = kept_entries opening parts
 abbrev pub entries_at : Rows → List Rows → ℕ → List (Key × List Value)
 entries_at opening parts place = entries_of opening parts (slice_get parts place)
 
--- the entries of the first places, so many, one after another
-abbrev pub entries_before : (ℕ → List (Key × List Value)) → ℕ → List (Key × List Value)
-entries_before entries zero = []
-entries_before entries (suc n) = entries_before entries n ++ entries n
+-- the first of these lists, so many, one after another
+abbrev pub joined_before : {A : Type 0} → (ℕ → List A) → ℕ → List A
+joined_before lists zero = []
+joined_before lists (suc n) = joined_before lists n ++ lists n

@@ -1,5 +1,5 @@
 -- Lists that are cut into ranges of keys.
-use Rattle.std.specs.Prelude.{◌≡◌, ◌==◌, ℕ, zero, suc, ◌<◌, ◌-◌, false, min, length, get_or, List, [], ◌++◌, take, drop, Option, Some, None, slice_get, IsPermutation, IsSortedByKey, if◌then◌else◌}
+use Rattle.std.specs.Prelude.{◌≡◌, ◌==◌, ℕ, zero, suc, ◌<◌, ◌-◌, false, min, length, get_or, List, [], take, drop, Option, Some, None, slice_get, IsPermutation, IsSortedByKey, if◌then◌else◌}
 use Rattle.std.specs.Borrow.{Bor}
 use Rattle.std.specs.Option.{unwrap_or}
 use Rattle.std.specs.Ordering.{is_lt}
@@ -7,16 +7,12 @@ use Rattle.row_images.specs.declared.value.Value.{Value}
 use Rattle.rows.specs.declared.change.Key.{Key}
 use Rattle.rows.specs.Listing.{all_shown, key_shown}
 use Rattle.rows.specs.Order.{key_cmp}
+use Rattle.row_parts.specs.Listing.{joined_before}
 use Rattle.row_parts.specs.declared.listing.Listed.{Listed}
 
 -- a row that is lent, with its key
 abbrev pub Shown : Type 0
 Shown = Bor Key × Bor (List Value)
-
--- the first of these lists, so many, one after another
-abbrev pub joined_before : {A : Type 0} → (ℕ → List A) → ℕ → List A
-joined_before lists zero = []
-joined_before lists (suc n) = joined_before lists n ++ lists n
 
 -- what the list at a place has
 abbrev pub shown_in : Option Listed → List Shown

@@ -1,6 +1,7 @@
 //! Lists in order, cut into ranges of keys, each of which is merged by a thread of its own.
 ghost use Rattle.std.specs.Prelude.{◌≡◌, ◌++◌, [], true, length, slice_get, IfOk, OnOk, Some, Ok, map, IsPermutation};
-ghost use Rattle.row_parts.specs.Ranges.{Follows, IsRange, IsRising, RisesAlong, cut_from, cuts_in, joined_before, left_of, range_of, ranges_at, shown_at};
+ghost use Rattle.row_parts.specs.Listing.{joined_before};
+ghost use Rattle.row_parts.specs.Ranges.{Follows, IsRange, IsRising, RisesAlong, cut_from, cuts_in, left_of, range_of, ranges_at, shown_at};
 
 use crate::listing::Listed;
 use rows::{Key, Row, sort_by_keys};

@@ -1,8 +1,8 @@
 use Rattle.std.proofs.Common.{◌≡◌, ◌+◌, ◌<◌, List, length, subst, sym, ap, ◌∙◌, le_refl}
 use Rattle.std.specs.Prelude.{IsPermutation}
 use Rattle.std.proofs.lemmas.List.{length-map}
-use Rattle.row_parts.specs.Ranges.{AreListedAt, joined_before, shown_at}
-use Rattle.row_parts.specs.Listing.{entries_at, entries_before, rows_in_each}
+use Rattle.row_parts.specs.Ranges.{AreListedAt, shown_at}
+use Rattle.row_parts.specs.Listing.{entries_at, joined_before, rows_in_each}
 use Rattle.row_parts.specs.declared.listing.Listed.{Listed}
 use Rattle.row_parts.proofs.Steps.{all_at, each_at, made}
 use Rattle.row_parts.proofs.Whole.{whole_listed}
@@ -19,4 +19,4 @@ returns g c whole are =
     let number : length lists ≡ length parts + 1 = sym (length-map lists made) ∙ ap length c.in_ok-lists-2.ensures ∙ count ∙ ap (λ n. n + 1) (sym (length-map c.args.parts.now (λ p. p.rows))) in
     let merged = subst (λ (ls : List Listed). IsPermutation (joined_before (shown_at ls) (length ls)) c.in_ok-list.list.items) c.deref.ensures.value c.in_ok-list.ensures.same in
     whole_listed c.args.opening.now.rows parts whole are (joined_before (shown_at lists) (length lists)) c.in_ok-list.list.items
-    (all_at entries lists (length lists) each (le_refl (length lists)) ∙ ap (entries_before entries) number) merged c.in_ok-list.ensures.rising
+    (all_at entries lists (length lists) each (le_refl (length lists)) ∙ ap (joined_before entries) number) merged c.in_ok-list.ensures.rising

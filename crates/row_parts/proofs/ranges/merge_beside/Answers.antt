@@ -1,6 +1,7 @@
 use Rattle.std.proofs.Common.{List, length, subst}
 use Rattle.std.specs.Prelude.{slice_get, IsPermutation}
-use Rattle.row_parts.specs.Ranges.{RisesAlong, cuts_in, joined_before, shown_at}
+use Rattle.row_parts.specs.Listing.{joined_before}
+use Rattle.row_parts.specs.Ranges.{RisesAlong, cuts_in, shown_at}
 use Rattle.row_parts.specs.declared.listing.Listed.{Listed}
 use Rattle.row_parts.proofs.Cutting.{all_ranges, merged}
 use Rattle.row_parts.proofs.ranges.merge_beside.Goals as goal

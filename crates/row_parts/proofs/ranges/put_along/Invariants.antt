@@ -1,5 +1,6 @@
 use Rattle.std.proofs.Common.{◌≡◌, true}
-use Rattle.row_parts.specs.Ranges.{RisesAlong, joined_before, shown_at}
+use Rattle.row_parts.specs.Listing.{joined_before}
+use Rattle.row_parts.specs.Ranges.{RisesAlong, shown_at}
 use Rattle.row_parts.proofs.ranges.put_along.Given as goal
 
 abbrev pub invariant-loop-i : goal.invariant-loop-i
