@@ -9,7 +9,7 @@ use Rattle.std.proofs.lemmas.Bool.Decides.{nat_tests}
 use Rattle.row_images.specs.Values.{is_lower_digit}
 use Rattle.row_images.proofs.Counts.{count_again, decimal_lacks}
 use Rattle.binlog_text.specs.Tokens.{after_prefix, cut_at, lacks, last_cut, ◌>>=◌}
-use Rattle.binlog_text.specs.Lines.{Column, Content, OfMark, OfHead, OfTable, OfColumn, OfGtid, OfSources, OfRow, OfValue, IsName, table_text, operation_text, event_text, IsStamp, column_front, column_end, named_text, IsNamed, is_source, is_source_front, comma, IsWhole, begins, is_comment, is_setting, begins_setting, ends_setting, quotes_then, is_savepoint, is_frame, IsMark, IsLine}
+use Rattle.binlog_text.specs.Lines.{Column, Content, OfMark, OfHead, OfTable, OfColumn, OfGtid, OfSources, OfRow, OfValue, IsName, table_text, operation_text, rows_text, ends_statement, event_text, HasFlags, IsStamp, column_front, column_end, named_text, IsNamed, is_source, is_source_front, comma, IsWhole, begins, is_comment, is_setting, begins_setting, ends_setting, quotes_then, is_savepoint, is_frame, is_plain, is_flush, IsMark, IsLine}
 use Rattle.binlog_text.specs.Reading.{branch, table_at, row_at, is_last_at, name_at, column, column_at, sources, sources_in, comment_line, table_map_at, content_at, line_of}
 use Rattle.binlog_text.specs.declared.lines.Operation.{Operation}
 use Rattle.binlog_text.specs.declared.lines.Operation.TheVariants as operations
@@ -114,6 +114,24 @@ frame_again text e = elim (either (bytes_eq text (codes "DELIMITER /*!*/;")) _ e
   ]
 ]
 
+-- ---- flushes
+
+abbrev NoFrame : List ℕ → Type 0
+NoFrame text = NoSetting text × (is_savepoint text ≡ false) × (is_frame text ≡ false)
+
+flush_front : (text : List ℕ) → (begins (codes "FLUSH ") text || begins (codes "flush ") text) ≡ true → NoFrame text
+flush_front text e = elim (either (begins (codes "FLUSH ") text) _ e) [
+  | inl p ↦ fronted (codes "FLUSH ") text NoFrame p (λ rest. (((refl, refl, refl, refl, refl, refl, refl, refl), refl), refl, refl))
+  | inr p ↦ fronted (codes "flush ") text NoFrame p (λ rest. (((refl, refl, refl, refl, refl, refl, refl, refl), refl), refl, refl))
+]
+
+flush_again : (text : List ℕ) → is_flush text ≡ true → line_of text ≡ Some (OfMark marks.Flush)
+flush_again text e =
+    let parts = and_parts (begins (codes "FLUSH ") text || begins (codes "flush ") text) (list_all is_plain text) e in
+    let f = flush_front text parts.0 in
+    let n = f.0.0 in
+    rw (n.0, n.1, n.2, n.3, n.4, n.5, n.6, n.7, f.0.1, f.1, f.2, e) refl
+
 -- ---- comments
 
 abbrev NoColumn : List ℕ → Type 0
@@ -164,6 +182,8 @@ mark_again marks.Closed text is = ap line_of is
 mark_again marks.Comment text is = ap line_of is.1 ∙ comment_again is.0 is.2
 mark_again marks.Setting text is = setting_again text is
 mark_again marks.Frame text is = frame_again text is
+mark_again marks.Extra text is = ap line_of is.1
+mark_again marks.Flush text is = flush_again text is
 
 -- ---- rows
 
@@ -292,18 +312,21 @@ head_of (d ∷ ds) rest is =
     let cut : cut_at 9 (d ∷ (ds ++ 9 ∷ rest)) ≡ Some (d ∷ ds, rest) = cut_again 9 (d ∷ ds) rest is.one in
     rw (other.0, other.1, cut, is.first) refl
 
-event_again : (event : Event) (rest : List ℕ) → content_at (event_text event ++ rest) ≡ Some (OfHead event)
-event_again events.Start rest = refl
-event_again events.PreviousGtids rest = refl
-event_again events.Gtid rest = refl
-event_again events.Query rest = refl
-event_again (events.Rows operations.Insert) rest = refl
-event_again (events.Rows operations.Update) rest = refl
-event_again (events.Rows operations.Delete) rest = refl
-event_again events.Xid rest = refl
-event_again events.Payload rest = refl
-event_again events.Rotate rest = refl
-event_again events.Stop rest = refl
+rows_again : (operation : Operation) (rest : List ℕ) → content_at (rows_text operation ++ rest) ≡ Some (OfHead (events.Rows operation (ends_statement rest)))
+rows_again operations.Insert rest = refl
+rows_again operations.Update rest = refl
+rows_again operations.Delete rest = refl
+
+event_again : (event : Event) (rest : List ℕ) → HasFlags event rest → content_at (event_text event ++ rest) ≡ Some (OfHead event)
+event_again events.Start rest flags = refl
+event_again events.PreviousGtids rest flags = refl
+event_again events.Gtid rest flags = refl
+event_again events.Query rest flags = refl
+event_again (events.Rows operation ends) rest flags = rows_again operation rest ∙ ap (λ (b : Bool). Some (OfHead (events.Rows operation b))) (sym flags)
+event_again events.Xid rest flags = refl
+event_again events.Payload rest flags = refl
+event_again events.Rotate rest flags = refl
+event_again events.Stop rest flags = refl
 
 mapped_again : (database table : List ℕ) (n : ℕ) → IsName database → IsName table → n < 2 ^ 64 → table_map_at (table_text database table ++ (codes " mapped to number " ++ decimal n)) ≡ Some (OfTable database table)
 mapped_again database table n d t lt =
@@ -319,7 +342,7 @@ gtid_line_again gtid free =
 -- the content of a line is read
 pub line_again : (l : Content) (text : List ℕ) → IsLine l text → line_of text ≡ Some l
 line_again (OfMark mark) text is = mark_again mark text is
-line_again (OfHead event) text is = ap line_of is.2 ∙ head_of is.0 (event_text event ++ is.1) is.3 ∙ event_again event is.1
+line_again (OfHead event) text is = ap line_of is.2 ∙ head_of is.0 (event_text event ++ is.1) is.3 ∙ event_again event is.1 is.4
 line_again (OfTable database table) text is =
     ap line_of is.2 ∙ head_of is.0 (codes "Table_map: " ++ (table_text database table ++ (codes " mapped to number " ++ decimal is.1))) is.3
     ∙ mapped_again database table is.1 is.4 is.5 is.6

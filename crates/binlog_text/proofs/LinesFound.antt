@@ -9,8 +9,8 @@ use Rattle.gtid_text.proofs.Turns.{chosen}
 use Rattle.row_images.specs.Words.{count_of}
 use Rattle.row_images.proofs.Counts.{count_found}
 use Rattle.binlog_text.specs.Tokens.{after_prefix, cut_at, nothing_in, last_cut, ◌>>=◌}
-use Rattle.binlog_text.specs.Lines.{Content, OfMark, OfGtid, OfSources, IsName, table_text, operation_text, event_text, begins_with_digit, IsStamp, column_front, column_end, named_text, is_source, comma, IsWhole, begins, is_comment, is_setting, is_savepoint, is_frame, IsLine}
-use Rattle.binlog_text.specs.Reading.{branch, table_at, row_at, assignment_at, row_line, is_last_at, name_at, column, column_at, sources, sources_in, comment_line, table_map_at, event_of, content_at, head_line, gtid_at, plain_line, line_of}
+use Rattle.binlog_text.specs.Lines.{Content, OfMark, OfGtid, OfSources, IsName, table_text, operation_text, rows_text, event_text, HasFlags, begins_with_digit, IsStamp, column_front, column_end, named_text, is_source, comma, IsWhole, begins, is_comment, is_setting, is_savepoint, is_frame, is_flush, IsLine}
+use Rattle.binlog_text.specs.Reading.{branch, table_at, row_at, assignment_at, row_line, is_last_at, name_at, column, column_at, sources, sources_in, comment_line, table_map_at, rows_event, other_event, event_of, content_at, head_line, gtid_at, plain_line, line_of}
 use Rattle.binlog_text.specs.declared.lines.Operation.{Operation}
 use Rattle.binlog_text.specs.declared.lines.Operation.TheVariants as operations
 use Rattle.binlog_text.specs.declared.lines.Event.{Event}
@@ -85,6 +85,11 @@ assigned_found text l e =
     subst (λ (m : Content). IsLine m (codes "###   @" ++ text)) (same_Some _ _ n.2)
     (ap (λ (xs : List ℕ). codes "###   @" ++ xs) (cut.parts ∙ ap (λ (xs : List ℕ). xs ++ 61 ∷ a.0.1) count.0), count.1)
 
+extra_found : (text : List ℕ) → begins (codes "Extra row info for partitioning: ") text ≡ true → IsLine (OfMark marks.Extra) (codes "### " ++ text)
+extra_found text h =
+    let front = begun (codes "Extra row info for partitioning: ") text (after_prefix (codes "Extra row info for partitioning: ") text) refl h in
+    (front.0, ap (λ (xs : List ℕ). codes "### " ++ xs) front.1)
+
 row_line_found : (text : List ℕ) (l : Content) → row_line text ≡ Some l → IsLine l (codes "### " ++ text)
 row_line_found text l e = elim (branch_found (codes "  @") text assignment_at _ l e) [
   | inl p ↦ subst (λ (xs : List ℕ). IsLine l (codes "### " ++ xs)) (sym p.1) (assigned_found p.0 l p.2)
@@ -96,9 +101,12 @@ row_line_found text l e = elim (branch_found (codes "  @") text assignment_at _ 
         | inl s ↦ subst (λ (xs : List ℕ). IsLine l (codes "### " ++ xs)) (sym s.1) (row_found operations.Delete s.0 l s.2)
         | inr s ↦ elim (chosen (bytes_eq text (codes "WHERE")) (Some (OfMark marks.Where)) _ (Some l) s) [
           | inl t ↦ subst (λ (m : Content). IsLine m (codes "### " ++ text)) (same_Some _ _ t.1) (ap (λ (xs : List ℕ). codes "### " ++ xs) (same_text text (codes "WHERE") t.0))
-          | inr t ↦ elim (chosen (bytes_eq text (codes "SET")) (Some (OfMark marks.Set)) None (Some l) t.1) [
+          | inr t ↦ elim (chosen (bytes_eq text (codes "SET")) (Some (OfMark marks.Set)) _ (Some l) t.1) [
             | inl u ↦ subst (λ (m : Content). IsLine m (codes "### " ++ text)) (same_Some _ _ u.1) (ap (λ (xs : List ℕ). codes "### " ++ xs) (same_text text (codes "SET") u.0))
-            | inr u ↦ absurd cc
+            | inr u ↦ elim (chosen (begins (codes "Extra row info for partitioning: ") text) (Some (OfMark marks.Extra)) None (Some l) u.1) [
+              | inl v ↦ subst (λ (m : Content). IsLine m (codes "### " ++ text)) (same_Some _ _ v.1) (extra_found text v.0)
+              | inr v ↦ absurd cc
+            ]
           ]
         ]
       ]
@@ -208,41 +216,54 @@ mapped_found stamp text l is e =
 
 -- the prefix of an event's text that was found
 abbrev pub Tells : List ℕ → Event → Type 0
-Tells text event = (rest : List ℕ) × (text ≡ event_text event ++ rest)
+Tells text event = (rest : List ℕ) × (text ≡ event_text event ++ rest) × HasFlags event rest
 
-tells : (event found : Event) (text : List ℕ) → begins (event_text event) text ≡ true → event ≡ found → Tells text found
-tells event found text h e = subst (Tells text) e (begun (event_text event) text (after_prefix (event_text event) text) refl h)
+tells : (event found : Event) (text : List ℕ) → ((rest : List ℕ) → HasFlags event rest) → begins (event_text event) text ≡ true → event ≡ found → Tells text found
+tells event found text flags h e =
+    let front = begun (event_text event) text (after_prefix (event_text event) text) refl h in
+    subst (Tells text) e (front.0, front.1, flags front.0)
+
+rows_found : (operation : Operation) (rest text : List ℕ) (event : Event) → text ≡ rows_text operation ++ rest → rows_event operation rest ≡ Some event → Tells text event
+rows_found operation rest text event parts e = subst (Tells text) (same_Some _ _ e) (rest, parts, refl)
+
+other_found : (text : List ℕ) (event : Event) → other_event text ≡ Some event → Tells text event
+other_found text event e = elim (chosen (begins (event_text events.Xid) text) (Some events.Xid) _ (Some event) e) [
+  | inl p ↦ tells events.Xid event text (λ rest. tt) p.0 (same_Some _ _ p.1)
+  | inr p ↦ elim (chosen (begins (event_text events.Payload) text) (Some events.Payload) _ (Some event) p.1) [
+    | inl p ↦ tells events.Payload event text (λ rest. tt) p.0 (same_Some _ _ p.1)
+    | inr p ↦ elim (chosen (begins (event_text events.PreviousGtids) text) (Some events.PreviousGtids) _ (Some event) p.1) [
+      | inl p ↦ tells events.PreviousGtids event text (λ rest. tt) p.0 (same_Some _ _ p.1)
+      | inr p ↦ elim (chosen (begins (event_text events.Start) text) (Some events.Start) _ (Some event) p.1) [
+        | inl p ↦ tells events.Start event text (λ rest. tt) p.0 (same_Some _ _ p.1)
+        | inr p ↦ elim (chosen (begins (event_text events.Rotate) text) (Some events.Rotate) _ (Some event) p.1) [
+          | inl p ↦ tells events.Rotate event text (λ rest. tt) p.0 (same_Some _ _ p.1)
+          | inr p ↦ elim (chosen (begins (event_text events.Stop) text) (Some events.Stop) None (Some event) p.1) [
+            | inl p ↦ tells events.Stop event text (λ rest. tt) p.0 (same_Some _ _ p.1)
+            | inr p ↦ absurd cc
+          ]
+        ]
+      ]
+    ]
+  ]
+]
+
+-- what is read after a prefix, or else
+event_branch : (front text : List ℕ) (o : Option (List ℕ)) (f : List ℕ → Option Event) (other : Option Event) (event : Event) → after_prefix front text ≡ o → branch o f other ≡ Some event → ((rest : List ℕ) × (text ≡ front ++ rest) × (f rest ≡ Some event)) ⊎ (other ≡ Some event)
+event_branch front text None f other event e h = inr h
+event_branch front text (Some rest) f other event e h = inl (rest, after_found front text rest e, h)
 
 event_found : (text : List ℕ) (event : Event) → event_of text ≡ Some event → Tells text event
 event_found text event e = elim (chosen (begins (event_text events.Query) text) (Some events.Query) _ (Some event) e) [
-  | inl p ↦ tells events.Query event text p.0 (same_Some _ _ p.1)
+  | inl p ↦ tells events.Query event text (λ rest. tt) p.0 (same_Some _ _ p.1)
   | inr p ↦ elim (chosen (begins (event_text events.Gtid) text) (Some events.Gtid) _ (Some event) p.1) [
-    | inl p ↦ tells events.Gtid event text p.0 (same_Some _ _ p.1)
-    | inr p ↦ elim (chosen (begins (event_text (events.Rows operations.Insert)) text) (Some (events.Rows operations.Insert)) _ (Some event) p.1) [
-      | inl p ↦ tells (events.Rows operations.Insert) event text p.0 (same_Some _ _ p.1)
-      | inr p ↦ elim (chosen (begins (event_text (events.Rows operations.Update)) text) (Some (events.Rows operations.Update)) _ (Some event) p.1) [
-        | inl p ↦ tells (events.Rows operations.Update) event text p.0 (same_Some _ _ p.1)
-        | inr p ↦ elim (chosen (begins (event_text (events.Rows operations.Delete)) text) (Some (events.Rows operations.Delete)) _ (Some event) p.1) [
-          | inl p ↦ tells (events.Rows operations.Delete) event text p.0 (same_Some _ _ p.1)
-          | inr p ↦ elim (chosen (begins (event_text events.Xid) text) (Some events.Xid) _ (Some event) p.1) [
-            | inl p ↦ tells events.Xid event text p.0 (same_Some _ _ p.1)
-            | inr p ↦ elim (chosen (begins (event_text events.Payload) text) (Some events.Payload) _ (Some event) p.1) [
-              | inl p ↦ tells events.Payload event text p.0 (same_Some _ _ p.1)
-              | inr p ↦ elim (chosen (begins (event_text events.PreviousGtids) text) (Some events.PreviousGtids) _ (Some event) p.1) [
-                | inl p ↦ tells events.PreviousGtids event text p.0 (same_Some _ _ p.1)
-                | inr p ↦ elim (chosen (begins (event_text events.Start) text) (Some events.Start) _ (Some event) p.1) [
-                  | inl p ↦ tells events.Start event text p.0 (same_Some _ _ p.1)
-                  | inr p ↦ elim (chosen (begins (event_text events.Rotate) text) (Some events.Rotate) _ (Some event) p.1) [
-                    | inl p ↦ tells events.Rotate event text p.0 (same_Some _ _ p.1)
-                    | inr p ↦ elim (chosen (begins (event_text events.Stop) text) (Some events.Stop) None (Some event) p.1) [
-                      | inl p ↦ tells events.Stop event text p.0 (same_Some _ _ p.1)
-                      | inr p ↦ absurd cc
-                    ]
-                  ]
-                ]
-              ]
-            ]
-          ]
+    | inl p ↦ tells events.Gtid event text (λ rest. tt) p.0 (same_Some _ _ p.1)
+    | inr p ↦ elim (event_branch (rows_text operations.Insert) text (after_prefix (rows_text operations.Insert) text) (rows_event operations.Insert) _ event refl p.1) [
+      | inl q ↦ rows_found operations.Insert q.0 text event q.1 q.2
+      | inr q ↦ elim (event_branch (rows_text operations.Update) text (after_prefix (rows_text operations.Update) text) (rows_event operations.Update) _ event refl q) [
+        | inl r ↦ rows_found operations.Update r.0 text event r.1 r.2
+        | inr r ↦ elim (event_branch (rows_text operations.Delete) text (after_prefix (rows_text operations.Delete) text) (rows_event operations.Delete) _ event refl r) [
+          | inl s ↦ rows_found operations.Delete s.0 text event s.1 s.2
+          | inr s ↦ other_found text event s
         ]
       ]
     ]
@@ -255,7 +276,7 @@ told_found stamp text l is e = elim (branch_found (codes "Table_map: ") text tab
   | inr p ↦
       let a = bind_some (event_of text) _ l p in
       let told = event_found text a.0 a.1 in
-      subst (λ (m : Content). IsLine m (35 ∷ (stamp ++ 9 ∷ text))) (same_Some _ _ a.2) (stamp, told.0, ap (λ (xs : List ℕ). 35 ∷ (stamp ++ 9 ∷ xs)) told.1, is)
+      subst (λ (m : Content). IsLine m (35 ∷ (stamp ++ 9 ∷ text))) (same_Some _ _ a.2) (stamp, told.0, ap (λ (xs : List ℕ). 35 ∷ (stamp ++ 9 ∷ xs)) told.1, is, told.2)
 ]
 
 head_line_found : (text : List ℕ) (l : Content) → head_line text ≡ Some l → IsLine l (35 ∷ text)
@@ -302,9 +323,12 @@ plain_line_found text l e = elim (branch_found (codes "SET @@SESSION.GTID_NEXT= 
             | inl u ↦ subst (λ (m : Content). IsLine m text) (same_Some _ _ u.1) u.0
             | inr u ↦ elim (chosen (is_savepoint text) (Some (OfMark marks.Savepoint)) _ (Some l) u.1) [
               | inl v ↦ subst (λ (m : Content). IsLine m text) (same_Some _ _ v.1) v.0
-              | inr v ↦ elim (chosen (is_frame text) (Some (OfMark marks.Frame)) None (Some l) v.1) [
+              | inr v ↦ elim (chosen (is_frame text) (Some (OfMark marks.Frame)) _ (Some l) v.1) [
                 | inl w ↦ subst (λ (m : Content). IsLine m text) (same_Some _ _ w.1) w.0
-                | inr w ↦ absurd cc
+                | inr w ↦ elim (chosen (is_flush text) (Some (OfMark marks.Flush)) None (Some l) w.1) [
+                  | inl x ↦ subst (λ (m : Content). IsLine m text) (same_Some _ _ x.1) x.0
+                  | inr x ↦ absurd cc
+                ]
               ]
             ]
           ]

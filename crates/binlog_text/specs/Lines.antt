@@ -1,7 +1,7 @@
 -- The lines of mysqlbinlog's text, each by itself.
 use Rattle.std.specs.Prelude.{◌≡◌, ℕ, ◌^◌, ◌<◌, ◌==◌, ◌&&◌, ◌||◌, Bool, true, false, List, [], ◌∷◌, ◌++◌, length, Option, Some, None, is_some, codes, decimal, nat_eq}
 use Rattle.std.specs.List.{list_all, ends_with}
-use Rattle.std.specs.Char.{is_ascii_digit}
+use Rattle.std.specs.Char.{is_ascii_digit, is_ascii_alphabetic}
 use Rattle.std.specs.Str.{bytes_eq}
 use Rattle.row_images.specs.Values.{is_lower_digit}
 use Rattle.binlog_text.specs.Tokens.{after_prefix, cut_at, lacks}
@@ -45,19 +45,38 @@ operation_text operations.Insert = codes "INSERT INTO "
 operation_text operations.Update = codes "UPDATE "
 operation_text operations.Delete = codes "DELETE FROM "
 
+abbrev pub rows_text : Operation → List ℕ
+rows_text operations.Insert = codes "Write_rows: table id "
+rows_text operations.Update = codes "Update_rows: table id "
+rows_text operations.Delete = codes "Delete_rows: table id "
+
 -- what the head of an event has after its time and place, as far as it determines the kind
 abbrev pub event_text : Event → List ℕ
 event_text events.Start = codes "Start: binlog v 4, "
 event_text events.PreviousGtids = codes "Previous-GTIDs"
 event_text events.Gtid = codes "GTID\t"
 event_text events.Query = codes "Query\t"
-event_text (events.Rows operations.Insert) = codes "Write_rows: table id "
-event_text (events.Rows operations.Update) = codes "Update_rows: table id "
-event_text (events.Rows operations.Delete) = codes "Delete_rows: table id "
+event_text (events.Rows operation ends) = rows_text operation
 event_text events.Xid = codes "Xid = "
 event_text events.Payload = codes "Transaction_Payload\t"
 event_text events.Rotate = codes "Rotate to "
 event_text events.Stop = codes "Stop"
+
+abbrev pub begins : List ℕ → List ℕ → Bool
+begins front text = is_some (after_prefix front text)
+
+abbrev pub has_ending_flags : Option (List ℕ × List ℕ) → Bool
+has_ending_flags None = false
+has_ending_flags (Some parts) = begins (codes "flags: STMT_END_F") parts.1
+
+-- by the flags after its table's number, a rows event ends its statement
+abbrev pub ends_statement : List ℕ → Bool
+ends_statement text = has_ending_flags (cut_at 32 text)
+
+-- what the head of an event has after that says of a rows event whether it ends its statement
+abbrev pub HasFlags : Event → List ℕ → Type 0
+HasFlags (events.Rows operation ends) rest = ends ≡ ends_statement rest
+HasFlags _ rest = Unit {0}
 
 abbrev pub begins_with_digit : List ℕ → Bool
 begins_with_digit [] = false
@@ -104,9 +123,6 @@ IsWhole false sources = (front : List ℕ) → sources ≡ front ++ 44 ∷ [] �
 
 -- ---- lines that are known by their prefixes and ends
 
-abbrev pub begins : List ℕ → List ℕ → Bool
-begins front text = is_some (after_prefix front text)
-
 -- after `# `
 abbrev pub is_comment : List ℕ → Bool
 is_comment text =
@@ -152,6 +168,13 @@ is_setting text = (begins_setting text && ends_setting text) || quotes_then (cod
 abbrev pub is_savepoint : List ℕ → Bool
 is_savepoint text = quotes_then [] (after_prefix (codes "SAVEPOINT `") text)
 
+abbrev pub is_plain : ℕ → Bool
+is_plain b = is_ascii_alphabetic b || (b == 32 || b == 95)
+
+-- a statement that flushes, of letters, blanks and underscores alone: it has no effect on rows
+abbrev pub is_flush : List ℕ → Bool
+is_flush text = (begins (codes "FLUSH ") text || begins (codes "flush ") text) && list_all is_plain text
+
 abbrev pub is_frame : List ℕ → Bool
 is_frame text =
     bytes_eq text (codes "DELIMITER /*!*/;")
@@ -179,11 +202,13 @@ IsMark marks.Closed line = line ≡ codes "# End of log file"
 IsMark marks.Comment line = (rest : List ℕ) × (line ≡ codes "# " ++ rest) × (is_comment rest ≡ true)
 IsMark marks.Setting line = is_setting line ≡ true
 IsMark marks.Frame line = is_frame line ≡ true
+IsMark marks.Extra line = (rest : List ℕ) × (line ≡ codes "### Extra row info for partitioning: " ++ rest)
+IsMark marks.Flush line = is_flush line ≡ true
 
 -- this is the content of the line
 abbrev pub IsLine : Content → List ℕ → Type 0
 IsLine (OfMark mark) line = IsMark mark line
-IsLine (OfHead event) line = (stamp : List ℕ) × (rest : List ℕ) × (line ≡ 35 ∷ (stamp ++ 9 ∷ (event_text event ++ rest))) × IsStamp stamp
+IsLine (OfHead event) line = (stamp : List ℕ) × (rest : List ℕ) × (line ≡ 35 ∷ (stamp ++ 9 ∷ (event_text event ++ rest))) × IsStamp stamp × HasFlags event rest
 IsLine (OfTable database table) line =
     (stamp : List ℕ) × (n : ℕ) × (line ≡ 35 ∷ (stamp ++ 9 ∷ (codes "Table_map: " ++ (table_text database table ++ (codes " mapped to number " ++ decimal n)))))
     × IsStamp stamp × IsName database × IsName table × (n < 2 ^ 64)

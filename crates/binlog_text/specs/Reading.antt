@@ -3,7 +3,7 @@ use Rattle.std.specs.Prelude.{ℕ, ◌==◌, Bool, true, false, ◌∷◌, [], L
 use Rattle.std.specs.Str.{bytes_eq}
 use Rattle.row_images.specs.Words.{count_of}
 use Rattle.binlog_text.specs.Tokens.{after_prefix, cut_at, last_cut, nothing_in, ◌>>=◌}
-use Rattle.binlog_text.specs.Lines.{Content, OfMark, OfHead, OfTable, OfColumn, OfGtid, OfSources, OfRow, OfValue, event_text, operation_text, begins_with_digit, begins, is_comment, is_source, is_setting, is_savepoint, is_frame}
+use Rattle.binlog_text.specs.Lines.{Content, OfMark, OfHead, OfTable, OfColumn, OfGtid, OfSources, OfRow, OfValue, event_text, rows_text, ends_statement, operation_text, begins_with_digit, begins, is_comment, is_source, is_setting, is_savepoint, is_frame, is_flush}
 use Rattle.binlog_text.specs.declared.lines.Operation.{Operation}
 use Rattle.binlog_text.specs.declared.lines.Operation.TheVariants as operations
 use Rattle.binlog_text.specs.declared.lines.Event.{Event}
@@ -46,6 +46,7 @@ row_line text =
     branch (after_prefix (operation_text operations.Delete) text) (row_at operations.Delete) (
     if bytes_eq text (codes "WHERE") then Some (OfMark marks.Where)
     else if bytes_eq text (codes "SET") then Some (OfMark marks.Set)
+    else if begins (codes "Extra row info for partitioning: ") text then Some (OfMark marks.Extra)
     else None))))
 
 -- ---- comments
@@ -96,20 +97,27 @@ table_map_at text = do
   _ ← count_of digits
   Some (OfTable table.0 table.1)
 
-abbrev pub event_of : List ℕ → Option Event
-event_of text =
-    if begins (event_text events.Query) text then Some events.Query
-    else if begins (event_text events.Gtid) text then Some events.Gtid
-    else if begins (event_text (events.Rows operations.Insert)) text then Some (events.Rows operations.Insert)
-    else if begins (event_text (events.Rows operations.Update)) text then Some (events.Rows operations.Update)
-    else if begins (event_text (events.Rows operations.Delete)) text then Some (events.Rows operations.Delete)
-    else if begins (event_text events.Xid) text then Some events.Xid
+abbrev pub rows_event : Operation → List ℕ → Option Event
+rows_event operation rest = Some (events.Rows operation (ends_statement rest))
+
+abbrev pub other_event : List ℕ → Option Event
+other_event text =
+    if begins (event_text events.Xid) text then Some events.Xid
     else if begins (event_text events.Payload) text then Some events.Payload
     else if begins (event_text events.PreviousGtids) text then Some events.PreviousGtids
     else if begins (event_text events.Start) text then Some events.Start
     else if begins (event_text events.Rotate) text then Some events.Rotate
     else if begins (event_text events.Stop) text then Some events.Stop
     else None
+
+abbrev pub event_of : List ℕ → Option Event
+event_of text =
+    if begins (event_text events.Query) text then Some events.Query
+    else if begins (event_text events.Gtid) text then Some events.Gtid
+    else branch (after_prefix (rows_text operations.Insert) text) (rows_event operations.Insert) (
+    branch (after_prefix (rows_text operations.Update) text) (rows_event operations.Update) (
+    branch (after_prefix (rows_text operations.Delete) text) (rows_event operations.Delete) (
+    other_event text)))
 
 abbrev pub event_at : List ℕ → Option Content
 event_at text = event_of text >>= λ event. Some (OfHead event)
@@ -144,6 +152,7 @@ plain_line text =
     else if is_setting text then Some (OfMark marks.Setting)
     else if is_savepoint text then Some (OfMark marks.Savepoint)
     else if is_frame text then Some (OfMark marks.Frame)
+    else if is_flush text then Some (OfMark marks.Flush)
     else None)
 
 -- the content of a line

@@ -48,6 +48,10 @@ mod tests {
             b'h',
         ),
         (
+            b"#261125 14:23:43 server id 7  end_log_pos 8236 CRC32 0x5a1cbf6c \tUpdate_rows: table id 106 flags: USE_SQL_FOREIGN_KEY_F",
+            b'h',
+        ),
+        (
             b"#261124  4:32:19 server id 1  end_log_pos 127 CRC32 0x6e9dd121 \tStart: binlog v 4, server v 9.7.4-2 created 261124  4:32:19 at startup",
             b'h',
         ),
@@ -70,6 +74,7 @@ mod tests {
         (b"### INSERT INTO `shop`.`allt`", b'r'),
         (b"### INSERT INTO `shop`.`odd``name`", b'-'),
         (b"### WHERE", b'm'),
+        (b"### Extra row info for partitioning: partition: 1", b'm'),
         (b"###   @3=-8388608 (8388608)", b'v'),
         (
             b"SET @@SESSION.GTID_NEXT= 'bdf17cb1-e8db-11f1-b994-02fc00000001:3'/*!*/;",
@@ -84,6 +89,8 @@ mod tests {
         (b"use `shop`/*!*/;", b'm'),
         (b"BEGIN", b'm'),
         (b"SAVEPOINT `s2`", b'm'),
+        (b"FLUSH RELAY LOGS", b'm'),
+        (b"FLUSH TABLES `t1`", b'-'),
         (b"CREATE DATABASE shop", b'-'),
         (b"XA START X'7831',X'',1", b'-'),
         (b"", b'-'),

@@ -15,7 +15,8 @@ pub enum Event {
     PreviousGtids,
     Gtid,
     Query,
-    Rows(Operation),
+    /// The rows of a table, and whether the event ends its statement.
+    Rows(Operation, bool),
     Xid,
     Payload,
     Rotate,
@@ -53,6 +54,10 @@ pub enum Mark {
     Setting,
     /// A line round the events of a file.
     Frame,
+    /// `### Extra row info for partitioning: ..`: the partitions of a rows event.
+    Extra,
+    /// A statement that flushes: it has no effect on rows.
+    Flush,
 }
 
 /// A line of mysqlbinlog's text, with the bytes that it holds.

@@ -3,8 +3,8 @@ ghost use Rattle.std.specs.Prelude.{◌≡◌, ℕ, List, Some, IfSome, option_m
 ghost use Rattle.std.specs.List.{list_all};
 ghost use Rattle.row_images.specs.Values.{is_lower_digit};
 ghost use Rattle.binlog_text.specs.Tokens.{last_cut};
-ghost use Rattle.binlog_text.specs.Lines.{Content, IsLine, is_comment, is_source, is_setting, is_savepoint, is_frame, begins_setting, quotes_then, event_text, begins_with_digit, begins};
-ghost use Rattle.binlog_text.specs.Reading.{table_at, row_at, assignment_at, row_line, is_last_at, name_at, column_at, sources, sources_in, comment_line, table_map_at, event_of, content_at, head_line, gtid_at, plain_line, line_of};
+ghost use Rattle.binlog_text.specs.Lines.{Content, IsLine, is_comment, is_source, is_setting, is_savepoint, is_frame, is_plain, is_flush, ends_statement, begins_setting, quotes_then, event_text, begins_with_digit, begins};
+ghost use Rattle.binlog_text.specs.Reading.{table_at, row_at, assignment_at, row_line, is_last_at, name_at, column_at, sources, sources_in, comment_line, table_map_at, rows_event, other_event, event_of, content_at, head_line, gtid_at, plain_line, line_of};
 ghost use Rattle.binlog_text.specs.Contents.{content_of};
 
 use crate::lines::{Column, Event, Line, Mark, Operation};
@@ -75,6 +75,9 @@ fn row_line(text: &[u8]) -> Option<Line<'_>>
     }
     if text == b"SET".as_slice() {
         return Some(Line::Mark(Mark::Set));
+    }
+    if begins(text, b"Extra row info for partitioning: ") {
+        return Some(Line::Mark(Mark::Extra));
     }
     None
 }
@@ -238,21 +241,28 @@ fn table_map(text: &[u8]) -> Option<Line<'_>>
     Some(Line::TableMap(database, table))
 }
 
-/// The kind of an event, by its head.
-fn event(text: &[u8]) -> Option<Event>
-    ensures { result ≡ event_of text.now }
+/// Whether the flags after a table's number say that the event ends its statement.
+fn ends_statement(text: &[u8]) -> bool
+    ensures { result ≡ ends_statement text.now }
 {
-    if begins(text, b"Query\t") {
-        Some(Event::Query)
-    } else if begins(text, b"GTID\t") {
-        Some(Event::Gtid)
-    } else if begins(text, b"Write_rows: table id ") {
-        Some(Event::Rows(Operation::Insert))
-    } else if begins(text, b"Update_rows: table id ") {
-        Some(Event::Rows(Operation::Update))
-    } else if begins(text, b"Delete_rows: table id ") {
-        Some(Event::Rows(Operation::Delete))
-    } else if begins(text, b"Xid = ") {
+    match cut_at(text, b' ') {
+        Some((_, flags)) => begins(flags, b"flags: STMT_END_F"),
+        None => false,
+    }
+}
+
+/// A rows event, by what its head has after `table id `.
+fn rows_event(operation: Operation, text: &[u8]) -> Option<Event>
+    ensures { result ≡ rows_event operation text.now }
+{
+    Some(Event::Rows(operation, ends_statement(text)))
+}
+
+/// The kind of an event that holds no rows, by its head.
+fn other_event(text: &[u8]) -> Option<Event>
+    ensures { result ≡ other_event text.now }
+{
+    if begins(text, b"Xid = ") {
         Some(Event::Xid)
     } else if begins(text, b"Transaction_Payload\t") {
         Some(Event::Payload)
@@ -267,6 +277,28 @@ fn event(text: &[u8]) -> Option<Event>
     } else {
         None
     }
+}
+
+/// The kind of an event, by its head.
+fn event(text: &[u8]) -> Option<Event>
+    ensures { result ≡ event_of text.now }
+{
+    if begins(text, b"Query\t") {
+        return Some(Event::Query);
+    }
+    if begins(text, b"GTID\t") {
+        return Some(Event::Gtid);
+    }
+    if let Some(rest) = after_prefix(text, b"Write_rows: table id ") {
+        return rows_event(Operation::Insert, rest);
+    }
+    if let Some(rest) = after_prefix(text, b"Update_rows: table id ") {
+        return rows_event(Operation::Update, rest);
+    }
+    if let Some(rest) = after_prefix(text, b"Delete_rows: table id ") {
+        return rows_event(Operation::Delete, rest);
+    }
+    other_event(text)
 }
 
 fn content_line(text: &[u8]) -> Option<Line<'_>>
@@ -345,6 +377,19 @@ fn is_savepoint(text: &[u8]) -> bool
     quotes_then(after_prefix(text, b"SAVEPOINT `"), b"")
 }
 
+fn are_plain(text: &[u8]) -> bool
+    ensures { result ≡ list_all is_plain text.now }
+{
+    text.iter()
+        .all(|b| b.is_ascii_alphabetic() || *b == b' ' || *b == b'_')
+}
+
+fn is_flush(text: &[u8]) -> bool
+    ensures { result ≡ is_flush text.now }
+{
+    (begins(text, b"FLUSH ") || begins(text, b"flush ")) && are_plain(text)
+}
+
 fn is_frame(text: &[u8]) -> bool
     ensures { result ≡ is_frame text.now }
 {
@@ -400,6 +445,9 @@ fn plain_line(text: &[u8]) -> Option<Line<'_>>
     }
     if is_frame(text) {
         return Some(Line::Mark(Mark::Frame));
+    }
+    if is_flush(text) {
+        return Some(Line::Mark(Mark::Flush));
     }
     None
 }
