@@ -2,6 +2,8 @@ pub mod TransactionLaws
 pub mod RowLaws
 pub mod Meanings
 pub mod KeptLaws
+pub mod RowsDue
+pub mod LimitLaws
 pub mod Pieces
 pub mod Whole
 pub mod JournalSteps

@@ -1,6 +1,6 @@
 -- Each line adds what it means to what the entries and what is open denote.
-use Rattle.std.proofs.Common.{◌≡◌, ℕ, Bool, true, false, cond, List, [], ◌∷◌, ◌++◌, Option, Some, None, Result, Ok, Err, refl, sym, ap, ◌∙◌, subst, append_assoc, append-nil}
-use Rattle.std.specs.FinSet as set
+use Rattle.std.specs.Prelude.{◌&&◌}
+use Rattle.std.proofs.Common.{◌≡◌, ℕ, Bool, true, false, cond, not, List, [], ◌∷◌, ◌++◌, Option, Some, None, Result, Ok, Err, refl, sym, ap, ◌∙◌, subst, append_assoc, append-nil}
 use Rattle.gtid_set.specs.Sets.{Gtids}
 use Rattle.journal_words.specs.Gtids.{set_of_word}
 use Rattle.rows.specs.Names.{is_name}
@@ -14,9 +14,12 @@ use Rattle.binlog_text.specs.declared.lines.Mark.TheVariants as marks
 use Rattle.binlog_text.specs.declared.lines.Operation.{Operation}
 use Rattle.binlog_text.specs.Lines.{Column, Content, OfMark, OfHead, OfTable, OfColumn, OfGtid, OfSources, OfRow, OfValue}
 use Rattle.binlog_entries.specs.Tables.{Table}
-use Rattle.binlog_entries.specs.Bodies.{kind_of, takes, body_of, behind, next_body}
-use Rattle.binlog_entries.specs.Machine.{Standing, ◌>>=◌, or_refused, is_idle, is_begun, same_stage, may_be_database, map_table, table_line, add_column, note_varied, column_line, sources_line, head_line, mark_line, take_content, step, runs, start, is_closed}
+use Rattle.binlog_entries.specs.Files.{next_file, has_come, come_behind}
+use Rattle.binlog_entries.specs.Unread.{refusal_at}
+use Rattle.binlog_entries.specs.Bodies.{kind_of, takes, rows_body, body_of, behind, next_body}
+use Rattle.binlog_entries.specs.Machine.{Standing, or_refused, is_idle, is_begun, same_stage, may_be_database, map_table, table_line, add_column, note_varied, column_line, previous_behind, sources_line, head_line, mark_line, take_content, step, runs, start, is_closed}
 use Rattle.binlog_entries.specs.Meaning.{Meaning, Context, nowhere, means, with_column, context_behind, meaning, meaning_of_entries}
+use Rattle.binlog_entries.specs.declared.bodies.Body.{Body}
 use Rattle.binlog_entries.specs.declared.bodies.Body.TheVariants as bodies
 use Rattle.binlog_entries.specs.declared.bodies.Kind.{Kind}
 use Rattle.binlog_entries.specs.declared.bodies.Kind.TheVariants as kinds
@@ -24,19 +27,61 @@ use Rattle.binlog_entries.specs.declared.draft.Stage.{Stage}
 use Rattle.binlog_entries.specs.declared.draft.Stage.TheVariants as stages
 use Rattle.binlog_entries.specs.declared.fault.EntryRefusal.{EntryRefusal}
 use Rattle.binlog_entries.specs.declared.fault.EntryRefusal.TheVariants as refusals
-use Rattle.binlog_entries.proofs.TransactionLaws.{bind_ok, same_ok, done, if_ok, spelled_open, row_of, spelled_state, context_of, is_rows, Sound, Tells, place_law, automatic_law, still, IsQuiet, closed_not, comment_quiet, setting_quiet, frame_quiet, sources_quiet, ended_quiet, statement_quiet, committed_quiet, column_quiet, tablemap_quiet, between_only, rows_only, neutral, closed_law, begin_law, commit_law, gtid_law}
+use Rattle.binlog_entries.proofs.TransactionLaws.{bind_ok, same_ok, done, if_ok, spelled_open, row_of, spelled_state, context_of, is_rows, Sound, Tells, place_law, automatic_law, still, IsQuiet, closed_not, comment_quiet, setting_quiet, frame_quiet, sources_quiet, ended_quiet, statement_quiet, committed_quiet, column_quiet, tablemap_quiet, between_only, rows_only, neutral, closed_law, begin_law, flush_law, commit_law, gtid_law}
 use Rattle.binlog_entries.proofs.RowLaws.{sound_rows, where_law, set_law, value_law, named_is, unless_not, row_law}
 
 -- ---- heads of events, tables and columns
 
-rows_head_law : (s t : Standing) (operation : Operation) → Sound s → takes s.body kinds.Head ≡ true → head_line s (events.Rows operation) ≡ Ok t → Tells s (OfHead (events.Rows operation)) (record t { body = bodies.Rows operation })
+-- that of a rows event which ends its statement
+ending_head : (s : Standing) (operation : Operation) → Sound s → s.row ≡ None → is_begun s.stage ≡ true → Tells s (OfHead (events.Rows operation true)) (record s { is_over = true; is_open = false; body = bodies.RowsDue })
+ending_head s operation sound none begun = record {
+  spells = sym (append-nil (spelled_state s));
+  context = refl;
+  sound = sound_rows (record s { is_over = true; is_open = false; body = bodies.RowsDue }) refl begun (λ d. none) sound.fits;
+}
+
+-- that of one before it
+earlier_head : (s : Standing) (operation : Operation) → Sound s → s.row ≡ None → Tells s (OfHead (events.Rows operation false)) (record s { is_over = true; is_open = true; body = bodies.Done })
+earlier_head s operation sound none = record {
+  spells = sym (append-nil (spelled_state s));
+  context = refl;
+  sound = record {
+    quiet = sound.quiet;
+    inside = λ b. none;
+    begun = λ b. closed_not b;
+    closed = λ c. closed_not c;
+    due = λ d. closed_not d;
+    fits = sound.fits;
+  };
+}
+
+either_head : (s : Standing) (operation : Operation) (ends : Bool) → Sound s → s.row ≡ None → is_begun s.stage ≡ true → Tells s (OfHead (events.Rows operation ends)) (record s { is_over = true; is_open = not ends; body = rows_body ends })
+either_head s operation true sound none begun = ending_head s operation sound none begun
+either_head s operation false sound none begun = earlier_head s operation sound none
+
+rows_head_law : (s t : Standing) (operation : Operation) (ends : Bool) → Sound s → takes s.body kinds.Head ≡ true → head_line s (events.Rows operation ends) ≡ Ok t → Tells s (OfHead (events.Rows operation ends)) (record t { body = rows_body ends })
 unfolding head_line
-rows_head_law s t operation sound at h =
-    let p = if_ok (is_begun s.stage) (record s { is_over = true }) refusals.Transaction t h in
-    subst (λ (u : Standing). Tells s (OfHead (events.Rows operation)) (record u { body = bodies.Rows operation })) p.1 (record {
-      spells = sym (append-nil (spelled_state s));
-      context = refl;
-      sound = sound_rows (record s { is_over = true; body = bodies.Rows operation }) refl p.0 sound.fits;
+rows_head_law s t operation ends sound at h =
+    let none = sound.inside (ap is_rows (between_only s.body kinds.Head at)) in
+    let p = if_ok (is_begun s.stage) (record s { is_over = true; is_open = not ends }) refusals.Transaction t h in
+    subst (λ (u : Standing). Tells s (OfHead (events.Rows operation ends)) (record u { body = rows_body ends })) p.1 (either_head s operation ends sound none p.0)
+
+-- the head of a previous set
+previous_head_law : (s t : Standing) → Sound s → takes s.body kinds.Head ≡ true → done (record s { file = next_file s.file }) ≡ Ok t → Tells s (OfHead events.PreviousGtids) (record t { body = bodies.PreviousGtids })
+previous_head_law s t sound at h =
+    let between : is_rows s.body ≡ false = ap is_rows (between_only s.body kinds.Head at) in
+    let as_it_was = still s (OfHead events.PreviousGtids) bodies.PreviousGtids sound between refl (λ c. closed_not c) refl refl in
+    subst (λ (u : Standing). Tells s (OfHead events.PreviousGtids) (record u { body = bodies.PreviousGtids })) (same_ok _ t h) (record {
+      spells = as_it_was.spells;
+      context = as_it_was.context;
+      sound = record {
+        quiet = as_it_was.sound.quiet;
+        inside = as_it_was.sound.inside;
+        begun = as_it_was.sound.begun;
+        closed = as_it_was.sound.closed;
+        due = as_it_was.sound.due;
+        fits = as_it_was.sound.fits;
+      };
     })
 
 -- any other head
@@ -48,9 +93,9 @@ plain_head s t event sound at h rows closed same =
 
 head_law : (s t : Standing) (event : Event) → Sound s → takes s.body kinds.Head ≡ true → head_line s event ≡ Ok t → Tells s (OfHead event) (record t { body = body_of event })
 unfolding head_line
-head_law s t (events.Rows operation) sound at h = rows_head_law s t operation sound at h
+head_law s t (events.Rows operation ends) sound at h = rows_head_law s t operation ends sound at h
 head_law s t events.Start sound at h = plain_head s t events.Start sound at h refl refl refl
-head_law s t events.PreviousGtids sound at h = plain_head s t events.PreviousGtids sound at h refl refl refl
+head_law s t events.PreviousGtids sound at h = previous_head_law s t sound at h
 head_law s t events.Gtid sound at h = plain_head s t events.Gtid sound at h refl refl refl
 head_law s t events.Query sound at h = plain_head s t events.Query sound at h refl refl refl
 head_law s t events.Xid sound at h = plain_head s t events.Xid sound at h refl refl refl
@@ -64,6 +109,7 @@ sound_tables s over database mapping tables sound outside = record {
   inside = λ b. sound.inside outside;
   begun = λ b. closed_not b;
   closed = λ c. closed_not c;
+  due = λ d. closed_not d;
   fits = sound.fits;
 }
 
@@ -108,6 +154,7 @@ column_law s t c sound at h =
         inside = sound.inside;
         begun = sound.begun;
         closed = sound.closed;
+        due = sound.due;
         fits = sound.fits;
       };
     })
@@ -133,18 +180,21 @@ end_law s t sound at h = let p = if_ok (same_stage s.stage stages.Idle) s refusa
 
 sources_law : (s t : Standing) (word : List ℕ) (more : Bool) → Sound s → takes s.body kinds.Sources ≡ true → sources_line s word ≡ Ok t → Tells s (OfSources word more) t
 unfolding sources_line
-sources_law s t word more sound at h = either s.is_fresh h
+sources_law s t word more sound at h =
+    let a = bind_ok (or_refused refusals.Gtid (set_of_word word)) _ t h in
+    let j = if_ok (has_come s.file s.come a.0) (record s { previous = previous_behind s.is_fresh s.previous a.0; come = come_behind s.file s.come a.0 }) refusals.Gap t a.2 in
+    subst (Tells s (OfSources word more)) j.1 (told_sets (previous_behind s.is_fresh s.previous a.0) (come_behind s.file s.come a.0))
   where
-    with_previous : (p : Gtids) → Tells s (OfSources word more) (record s { previous = p })
-    with_previous p = record {
+    told_sets : (p c : Gtids) → Tells s (OfSources word more) (record s { previous = p; come = c })
+    told_sets p c = record {
       spells = sym (append-nil (spelled_state s));
       context = refl;
-      sound = record { quiet = sound.quiet; inside = sound.inside; begun = sound.begun; closed = sound.closed; fits = sound.fits };
+      sound = record { quiet = sound.quiet; inside = sound.inside; begun = sound.begun; closed = sound.closed; due = sound.due; fits = sound.fits };
     }
 
-    either : (b : Bool) → cond b (or_refused refusals.Gtid (set_of_word word) >>= λ gtids. Ok (record s { previous = set.union s.previous gtids })) (Ok s) ≡ Ok t → Tells s (OfSources word more) t
-    either true e = let a = bind_ok (or_refused refusals.Gtid (set_of_word word)) _ t e in subst (Tells s (OfSources word more)) (same_ok _ t a.2) (with_previous (set.union s.previous a.0))
-    either false e = subst (Tells s (OfSources word more)) (same_ok s t e) (with_previous s.previous)
+-- a line of extra row info
+extra_law : (s t : Standing) → Sound s → done s ≡ Ok t → Tells s (OfMark marks.Extra) t
+extra_law s t sound h = subst (Tells s (OfMark marks.Extra)) (same_ok s t h) (record { spells = sym (append-nil (spelled_state s)); context = refl; sound = sound })
 
 -- a mark
 mark_law : (s t : Standing) (mark : Mark) → Sound s → takes s.body (kind_of (OfMark mark)) ≡ true → mark_line s mark ≡ Ok t → Tells s (OfMark mark) (record t { body = next_body t.body (OfMark mark) })
@@ -155,6 +205,8 @@ mark_law s t marks.Set sound at h = set_law s t sound (rows_only s.body at) h
 mark_law s t marks.Begin sound at h = begin_law s t sound at h
 mark_law s t marks.Commit sound at h = commit_law s t marks.Commit bodies.Statement sound (statement_quiet s.body at).0 refl refl refl refl h
 mark_law s t marks.Committed sound at h = commit_law s t marks.Committed bodies.Done sound (committed_quiet s.body at).0 refl refl refl refl h
+mark_law s t marks.Flush sound at h = flush_law s t sound at h
+mark_law s t marks.Extra sound at h = extra_law s t sound h
 mark_law s t marks.Savepoint sound at h = savepoint_law s t sound at h
 mark_law s t marks.Closed sound at h = end_law s t sound at h
 mark_law s t marks.Ended sound at h = unchanged s t (OfMark marks.Ended) kinds.Ended sound (ended_quiet s.body at) refl refl h
@@ -180,7 +232,7 @@ test_ok false r e x h = absurd cc
 pub step_law : (s t : Standing) (l : Content) → Sound s → step s l ≡ Ok t → Tells s l t
 unfolding step
 step_law s t l sound h =
-    let p = test_ok (takes s.body (kind_of l)) _ refusals.Format t h in
+    let p = test_ok (takes s.body (kind_of l)) _ (refusal_at s.body) t h in
     let a = bind_ok (take_content s l) _ t p.1 in
     subst (Tells s l) (same_ok _ t a.2) (told_law s a.0 l sound p.0 a.1)
 
@@ -204,19 +256,20 @@ runs_law s (l ∷ ls) t sound h =
       sound = rest.sound;
     }
 
-pub sound_start : Sound start
-sound_start = record {
+pub sound_start : (opening : Gtids) → Sound (start opening)
+sound_start opening = record {
   quiet = λ b. (refl, refl);
   inside = λ b. refl;
   begun = λ b. closed_not b;
   closed = λ c. closed_not c;
+  due = λ d. refl;
   fits = (refl, refl);
 }
 
 -- what the lines of a whole log mean is what its entries denote
-pub entries_told : (ls : List Content) (s : Standing) → runs start ls ≡ Ok s → is_closed s.body ≡ true → meaning nowhere ls ≡ meaning_of_entries s.entries
-entries_told ls s h closed =
-    let all = runs_law start ls s sound_start h in
+pub entries_told : (opening : Gtids) (ls : List Content) (s : Standing) → runs (start opening) ls ≡ Ok s → is_closed s.body ≡ true → meaning nowhere ls ≡ meaning_of_entries s.entries
+entries_told opening ls s h closed =
+    let all = runs_law (start opening) ls s (sound_start opening) h in
     sym all.spells ∙ idle_spelled s.stage (all.sound.closed closed)
   where
     idle_spelled : (stage : Stage) → is_idle stage ≡ true → meaning_of_entries s.entries ++ spelled_open stage s.gtid s.changes (row_of s) ≡ meaning_of_entries s.entries

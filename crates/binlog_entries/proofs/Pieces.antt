@@ -7,7 +7,7 @@ use Rattle.gtid_set.specs.declared.fault.SetFault.{SetFault}
 use Rattle.gtid_set.specs.declared.fault.SetFault.TheVariants.{Memory}
 use Rattle.txn_journal.specs.Words.{IsOneLine}
 use Rattle.binlog_entries.specs.Machine.{Standing, judge}
-use Rattle.binlog_entries.specs.Stream.{Progress, Reading, Stopped, unless_stopped, next_number, progress_after, feed_byte, feed_bytes, answer, HasPart, IsEndFault, IsPieceFault, IsJoinedFault, IsAfter, TakesPiece, LogValue, Ends, closing}
+use Rattle.binlog_entries.specs.Stream.{Progress, Reading, Stopped, unless_stopped, named_line, next_number, progress_after, feed_byte, feed_bytes, answer, HasPart, IsEndFault, IsPieceFault, IsJoinedFault, IsAfter, TakesPiece, LogValue, Ends, closing}
 use Rattle.binlog_entries.specs.declared.fault.ReadFault.{ReadFault}
 use Rattle.binlog_entries.specs.declared.fault.ReadFault.TheVariants as faults
 use Rattle.binlog_entries.specs.declared.fault.EntryRefusal.{EntryRefusal}
@@ -47,12 +47,12 @@ line_ok o q s t n m rest new line goes same one made none next =
 
 pub line_refused : (o : Option ReadFault) (s : Standing) (n m : ℕ) (rest line : List ℕ) (refusal : EntryRefusal)
     → o ≡ None → IsOneLine line → judge s (rest ++ line) ≡ Err refusal → m ≡ next_number n
-    → feed_bytes (unless_stopped o (Reading s n rest)) (line ++ 10 ∷ []) ≡ Stopped (faults.Line m refusal)
+    → feed_bytes (unless_stopped o (Reading s n rest)) (line ++ 10 ∷ []) ≡ Stopped (faults.Line (named_line refusal m) refusal)
 line_refused o s n m rest line refusal goes one made next =
     ap (λ (k : Option ReadFault). feed_bytes (unless_stopped k (Reading s n rest)) (line ++ 10 ∷ [])) goes
     ∙ eats_line s n rest line one
     ∙ ap (λ (r : Result Standing EntryRefusal). progress_after r (next_number n)) made
-    ∙ sym (λ i. Stopped (faults.Line (next i) refusal))
+    ∙ sym (λ i. Stopped (faults.Line (named_line refusal (next i)) refusal))
 
 -- a line before what is left
 pub line_taken : (now then total : Progress) (left line after : List ℕ)

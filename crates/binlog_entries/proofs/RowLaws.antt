@@ -18,7 +18,8 @@ use Rattle.binlog_text.specs.declared.lines.Operation.{Operation}
 use Rattle.binlog_text.specs.declared.lines.Operation.TheVariants as operations
 use Rattle.binlog_text.specs.Lines.{OfMark, OfRow, OfValue}
 use Rattle.binlog_entries.specs.Tables.{Table, find_table, type_at}
-use Rattle.binlog_entries.specs.Machine.{Standing, or_refused, is_begun, finish_row, is_database, has_rows_of, open_row, known_name, begin_row, row_line, before_due, after_due, where_line, set_line, parse_value, next_value, value_in, value_line, is_closed}
+use Rattle.binlog_entries.specs.Bodies.{is_row_due, row_behind}
+use Rattle.binlog_entries.specs.Machine.{Standing, or_refused, is_begun, finish_row, is_database, open_row, known_name, begin_row, row_line, before_due, after_due, where_line, set_line, parse_value, next_value, value_in, value_line, is_closed}
 use Rattle.binlog_entries.specs.Meaning.{Meaning, Names, Row, Before, After, Holds, shown_in, meaning_of_values, meaning_of_change, meaning_of_entries}
 use Rattle.binlog_entries.specs.declared.bodies.Body.{Body}
 use Rattle.binlog_entries.specs.declared.bodies.Body.TheVariants as bodies
@@ -41,18 +42,37 @@ grown es stages.Begun gtid cs old new m b e =
     ∙ sym (append_assoc es (Names (gtid_text gtid) ∷ (flat_map meaning_of_change cs ++ old)) m)
 
 -- what is known of a state within rows
-pub sound_rows : (s : Standing) → is_rows s.body ≡ true → is_begun s.stage ≡ true → RowFits s.row s.part s.before s.after → Sound s
-sound_rows s rows begun fits = record {
+pub sound_rows : (s : Standing) → is_rows s.body ≡ true → is_begun s.stage ≡ true → (is_row_due s.body ≡ true → s.row ≡ None) → RowFits s.row s.part s.before s.after → Sound s
+sound_rows s rows begun due fits = record {
   quiet = λ b. absurd (let bad : true ≡ false = sym begun ∙ b in cc);
   inside = λ b. absurd (let bad : true ≡ false = sym rows ∙ b in cc);
   begun = λ b. begun;
   closed = λ c. absurd (no_rows s.body rows c);
+  due = due;
   fits = fits;
 }
   where
     no_rows : (body : Body) → is_rows body ≡ true → is_closed body ≡ true → ⊥
-    no_rows (bodies.Rows operation) e c = absurd cc
+    no_rows bodies.Rows e c = absurd cc
+    no_rows bodies.RowsDue e c = absurd cc
     no_rows _ e c = absurd cc
+
+-- after a row's line no row is owed
+rows_behind : (body : Body) → is_rows body ≡ true → is_rows (row_behind body) ≡ true
+rows_behind bodies.Rows e = refl
+rows_behind bodies.RowsDue e = refl
+rows_behind _ e = absurd cc
+
+come_due : {A : Type 0} (body : Body) → is_row_due (row_behind body) ≡ true → A
+come_due bodies.RowsDue d = absurd cc
+come_due _ d = absurd cc
+
+-- the state after a row's line
+sound_row : (s : Standing) → is_rows s.body ≡ true → is_begun s.stage ≡ true → RowFits s.row s.part s.before s.after → Sound (record s { body = row_behind s.body })
+sound_row s rows begun fits = sound_rows (record s { body = row_behind s.body }) (rows_behind s.body rows) begun (λ d. come_due s.body d) fits
+
+abbrev pub row_taken : Standing → Standing
+row_taken t = record t { body = row_behind t.body }
 
 pub where_row : (r : Option (List ℕ)) (operation : Operation) (part : Part) (before after : List Value) → (is_some r && before_due operation part) ≡ true → RowFits r part before after → (spelled_row r operation parts.Before before after ≡ spelled_row r operation part before after ++ Before ∷ []) × RowFits r parts.Before before after
 where_row None operation part before after e fits = absurd cc
@@ -66,26 +86,26 @@ set_row (Some table) operations.Insert parts.Head before after e fits = (ap (λ 
 set_row (Some table) operations.Update parts.Before before after e fits = (ap (λ (vs : List Value). Row operations.Update table ∷ Before ∷ (meaning_of_values 1 before ++ After ∷ meaning_of_values 1 vs)) fits, tt)
 set_row (Some table) _ _ before after e fits = absurd cc
 
-pub where_law : (s t : Standing) → Sound s → is_rows s.body ≡ true → where_line s ≡ Ok t → Tells s (OfMark marks.Where) t
+pub where_law : (s t : Standing) → Sound s → is_rows s.body ≡ true → where_line s ≡ Ok t → Tells s (OfMark marks.Where) (row_taken t)
 unfolding where_line
 where_law s t sound rows h =
     let p = if_ok (is_some s.row && before_due s.operation s.part) (record s { part = parts.Before }) refusals.Columns t h in
     let row = where_row s.row s.operation s.part s.before s.after p.0 sound.fits in
-    subst (λ (u : Standing). Tells s (OfMark marks.Where) u) p.1 (record {
+    subst (λ (u : Standing). Tells s (OfMark marks.Where) (row_taken u)) p.1 (record {
       spells = grown (meaning_of_entries s.entries) s.stage s.gtid s.changes (row_of s) _ (Before ∷ []) (sound.begun rows) row.0;
       context = refl;
-      sound = sound_rows (record s { part = parts.Before }) rows (sound.begun rows) row.1;
+      sound = sound_row (record s { part = parts.Before }) rows (sound.begun rows) row.1;
     })
 
-pub set_law : (s t : Standing) → Sound s → is_rows s.body ≡ true → set_line s ≡ Ok t → Tells s (OfMark marks.Set) t
+pub set_law : (s t : Standing) → Sound s → is_rows s.body ≡ true → set_line s ≡ Ok t → Tells s (OfMark marks.Set) (row_taken t)
 unfolding set_line
 set_law s t sound rows h =
     let p = if_ok (is_some s.row && after_due s.operation s.part) (record s { part = parts.After }) refusals.Columns t h in
     let row = set_row s.row s.operation s.part s.before s.after p.0 sound.fits in
-    subst (λ (u : Standing). Tells s (OfMark marks.Set) u) p.1 (record {
+    subst (λ (u : Standing). Tells s (OfMark marks.Set) (row_taken u)) p.1 (record {
       spells = grown (meaning_of_entries s.entries) s.stage s.gtid s.changes (row_of s) _ (After ∷ []) (sound.begun rows) row.0;
       context = refl;
-      sound = sound_rows (record s { part = parts.After }) rows (sound.begun rows) row.1;
+      sound = sound_row (record s { part = parts.After }) rows (sound.begun rows) row.1;
     })
 
 -- one value more
@@ -149,7 +169,7 @@ pub fits_after : (r : Option (List ℕ)) (table : List ℕ) (before after : List
 fits_after None table before after e = absurd cc
 fits_after (Some t) table before after e = tt
 
-pub value_by : (s t : Standing) (part : Part) (n : ℕ) (text : List ℕ) → Sound s → is_rows s.body ≡ true → s.part ≡ part → value_in s part n text ≡ Ok t → Tells s (OfValue n text) t
+pub value_by : (s t : Standing) (part : Part) (n : ℕ) (text : List ℕ) → Sound s → is_rows s.body ≡ true → s.part ≡ part → value_in s part n text ≡ Ok t → Tells s (OfValue n text) (row_taken t)
 value_by s t parts.Head n text sound rows is h = absurd cc
 value_by s t parts.Before n text sound rows is h =
     let a = bind_ok (next_value s (length s.before) n text) _ t h in
@@ -160,11 +180,11 @@ value_by s t parts.Before n text sound rows is h =
     let fits : RowFits s.row s.part (s.before ++ a.0 ∷ []) s.after =
     subst (λ (p : Part). RowFits s.row p (s.before ++ a.0 ∷ []) s.after) (sym is)
     (fits_before s.row v.row.0 s.before (s.before ++ a.0 ∷ []) s.after v.row.1 (subst (λ (p : Part). RowFits s.row p s.before s.after) is sound.fits)) in
-    subst (λ (u : Standing). Tells s (OfValue n text) u) (same_ok _ t a.2) (record {
+    subst (λ (u : Standing). Tells s (OfValue n text) (row_taken u)) (same_ok _ t a.2) (record {
       spells = grown (meaning_of_entries s.entries) s.stage s.gtid s.changes (row_of s) _ (Holds n (Some a.0) ∷ []) (sound.begun rows) row
           ∙ ap (λ (o : Option Value). spelled_state s ++ Holds n o ∷ []) (sym v.shown);
       context = refl;
-      sound = sound_rows (record s { before = s.before ++ a.0 ∷ [] }) rows (sound.begun rows) fits;
+      sound = sound_row (record s { before = s.before ++ a.0 ∷ [] }) rows (sound.begun rows) fits;
     })
 value_by s t parts.After n text sound rows is h =
     let a = bind_ok (next_value s (length s.after) n text) _ t h in
@@ -174,14 +194,14 @@ value_by s t parts.After n text sound rows is h =
     (after_more s.row v.row.0 s.operation s.before s.after n a.0 v.row.1 v.number) in
     let fits : RowFits s.row s.part s.before (s.after ++ a.0 ∷ []) =
     subst (λ (p : Part). RowFits s.row p s.before (s.after ++ a.0 ∷ [])) (sym is) (fits_after s.row v.row.0 s.before (s.after ++ a.0 ∷ []) v.row.1) in
-    subst (λ (u : Standing). Tells s (OfValue n text) u) (same_ok _ t a.2) (record {
+    subst (λ (u : Standing). Tells s (OfValue n text) (row_taken u)) (same_ok _ t a.2) (record {
       spells = grown (meaning_of_entries s.entries) s.stage s.gtid s.changes (row_of s) _ (Holds n (Some a.0) ∷ []) (sound.begun rows) row
           ∙ ap (λ (o : Option Value). spelled_state s ++ Holds n o ∷ []) (sym v.shown);
       context = refl;
-      sound = sound_rows (record s { after = s.after ++ a.0 ∷ [] }) rows (sound.begun rows) fits;
+      sound = sound_row (record s { after = s.after ++ a.0 ∷ [] }) rows (sound.begun rows) fits;
     })
 
-pub value_law : (s t : Standing) (n : ℕ) (text : List ℕ) → Sound s → is_rows s.body ≡ true → value_line s n text ≡ Ok t → Tells s (OfValue n text) t
+pub value_law : (s t : Standing) (n : ℕ) (text : List ℕ) → Sound s → is_rows s.body ≡ true → value_line s n text ≡ Ok t → Tells s (OfValue n text) (row_taken t)
 unfolding value_line
 value_law s t n text sound rows h = value_by s t s.part n text sound rows refl h
 
@@ -206,21 +226,20 @@ pub opened_is : (s t : Standing) (operation : Operation) (o : Option (List ℕ))
 opened_is s t operation None e = absurd cc
 opened_is s t operation (Some table) e = (table, refl, same_ok _ t e)
 
-pub row_law : (s t : Standing) (operation : Operation) (database table : List ℕ) → Sound s → is_rows s.body ≡ true → row_line s operation database table ≡ Ok t → Tells s (OfRow operation database table) t
+pub row_law : (s t : Standing) (operation : Operation) (database table : List ℕ) → Sound s → is_rows s.body ≡ true → row_line s operation database table ≡ Ok t → Tells s (OfRow operation database table) (row_taken t)
 unfolding row_line
 row_law s t operation database table sound rows h =
     let a = bind_ok (finish_row s) _ t h in
     let f = finish_law s a.0 sound a.1 in
     let began : begin_row (bare s f.made) operation database table ≡ Ok t = subst (λ (u : Standing). begin_row u operation database table ≡ Ok t) f.is a.2 in
-    let b = unless_not (has_rows_of s.body operation) refusals.Format _ t began in
-    let c = unless_not (is_database database s.database) refusals.Table _ t b.1 in
+    let c = unless_not (is_database database s.database) refusals.Table _ t began in
     let o = opened_is (bare s f.made) t operation (known_name table s.tables) c.1 in
     let name = known_is table s.tables o.0 o.1 in
     let begun = sound.begun rows in
-    subst (λ (u : Standing). Tells s (OfRow operation database table) u) o.2 (record {
+    subst (λ (u : Standing). Tells s (OfRow operation database table) (row_taken u)) o.2 (record {
       spells = grown (meaning_of_entries s.entries) s.stage s.gtid f.made [] (Row operation o.0 ∷ []) (Row operation o.0 ∷ []) begun refl
           ∙ ap (λ (xs : List Meaning). xs ++ Row operation o.0 ∷ []) f.spells
           ∙ ap (λ (xs : List ℕ). spelled_state s ++ Row operation xs ∷ []) (sym name);
       context = ap (λ (xs : List ℕ). record { is_over = s.is_over; mapping = s.mapping; tables = s.tables; row = Some xs }) (sym name);
-      sound = sound_rows (record (bare s f.made) { row = Some o.0; operation = operation; part = parts.Head }) rows begun (refl, refl);
+      sound = sound_row (record (bare s f.made) { row = Some o.0; operation = operation; part = parts.Head }) rows begun (refl, refl);
     })

@@ -1,6 +1,8 @@
 -- What a state denotes, and the lines of events and transactions.
-use Rattle.std.proofs.Common.{◌≡◌, ℕ, Bool, true, false, cond, not, List, [], ◌∷◌, ◌++◌, length, Option, Some, None, Result, Ok, Err, refl, sym, ap, ◌∙◌, subst, append_assoc, append-nil}
+use Rattle.std.proofs.lemmas.Bool.{and_parts}
+use Rattle.std.proofs.Common.{◌≡◌, ℕ, Bool, true, false, cond, not, ◌&&◌, List, [], ◌∷◌, ◌++◌, length, Option, Some, None, Result, Ok, Err, refl, sym, ap, ◌∙◌, subst, append_assoc, append-nil}
 use Rattle.std.specs.List.{flat_map}
+use Rattle.std.specs.FinSet as set
 use Rattle.gtid_text.specs.Canonical.{gtid_text}
 use Rattle.gtid_text.specs.declared.Gtid.{Gtid}
 use Rattle.journal_words.specs.Gtids.{gtid_of_word}
@@ -13,8 +15,8 @@ use Rattle.binlog_text.specs.declared.lines.Operation.{Operation}
 use Rattle.binlog_text.specs.declared.lines.Operation.TheVariants as operations
 use Rattle.binlog_text.specs.Lines.{Content, OfMark, OfGtid}
 use Rattle.binlog_entries.specs.Tables.{Table, find_table, with_mapping}
-use Rattle.binlog_entries.specs.Bodies.{takes, behind}
-use Rattle.binlog_entries.specs.Machine.{Standing, ◌>>=◌, or_refused, is_idle, is_named, is_begun, is_whole, change_of, with_change, finish_in, finish_by, finish_row, place_line, open_entry, commit_line, begin_line, gtid_line, is_closed}
+use Rattle.binlog_entries.specs.Bodies.{is_row_due, takes, behind}
+use Rattle.binlog_entries.specs.Machine.{Standing, ◌>>=◌, or_refused, is_idle, is_named, is_begun, is_whole, change_of, with_change, finish_in, finish_by, finish_row, place_line, entry_of, with_entry, commit_line, flush_line, begin_line, gtid_line, is_closed}
 use Rattle.binlog_entries.specs.Meaning.{Meaning, Names, Row, Before, After, Commits, Context, means, behind_place, context_behind, meaning_of_values, meaning_of_change, meaning_of_entry, meaning_of_entries}
 use Rattle.binlog_entries.specs.declared.bodies.Body.{Body}
 use Rattle.binlog_entries.specs.declared.bodies.Body.TheVariants as bodies
@@ -22,6 +24,7 @@ use Rattle.binlog_entries.specs.declared.bodies.Kind.{Kind}
 use Rattle.binlog_entries.specs.declared.bodies.Kind.TheVariants as kinds
 use Rattle.binlog_entries.specs.declared.draft.Stage.{Stage}
 use Rattle.binlog_entries.specs.declared.draft.Stage.TheVariants as stages
+use Rattle.binlog_entries.specs.declared.draft.File.TheVariants as files
 use Rattle.binlog_entries.specs.declared.draft.Part.{Part}
 use Rattle.binlog_entries.specs.declared.draft.Part.TheVariants as parts
 use Rattle.binlog_entries.specs.declared.fault.EntryRefusal.{EntryRefusal}
@@ -74,7 +77,8 @@ context_of s = record { is_over = s.is_over; mapping = s.mapping; tables = s.tab
 -- ---- what holds of a state
 
 abbrev pub is_rows : Body → Bool
-is_rows (bodies.Rows operation) = true
+is_rows bodies.Rows = true
+is_rows bodies.RowsDue = true
 is_rows _ = false
 
 abbrev pub RowFits : Option (List ℕ) → Part → List Value → List Value → Type 0
@@ -88,6 +92,7 @@ pub record Sound (s : Standing) : Type 0 where
   pub inside : is_rows s.body ≡ false → s.row ≡ None
   pub begun : is_rows s.body ≡ true → is_begun s.stage ≡ true
   pub closed : is_closed s.body ≡ true → is_idle s.stage ≡ true
+  pub due : is_row_due s.body ≡ true → s.row ≡ None
   pub fits : RowFits s.row s.part s.before s.after
 
 -- the line was taken
@@ -183,6 +188,11 @@ finish_law s u sound h = finish_either s u s.row sound refl h
 abbrev pub rests : Standing → List Change → Body → Standing
 rests s cs body = record (bare s cs) { tables = with_mapping s.tables s.mapping; mapping = None; body = body }
 
+-- a row is owed in the body of a rows event alone
+pub due_rows : (body : Body) → is_row_due body ≡ true → is_rows body ≡ true
+due_rows bodies.RowsDue d = refl
+due_rows _ d = absurd cc
+
 -- a body that is no rows event, and is closed only where no transaction is open
 pub sound_rests : (s : Standing) (cs : List Change) (body : Body) → (is_begun s.stage ≡ false → cs ≡ []) → is_rows body ≡ false → (is_closed body ≡ true → is_idle s.stage ≡ true) → Sound (rests s cs body)
 sound_rests s cs body quiet rows closed = record {
@@ -190,6 +200,7 @@ sound_rests s cs body quiet rows closed = record {
   inside = λ b. refl;
   begun = λ b. absurd (let bad : true ≡ false = sym b ∙ rows in cc);
   closed = closed;
+  due = λ d. refl;
   fits = (refl, refl);
 }
 
@@ -224,6 +235,7 @@ still s l body sound outside rows closed nothing same = record {
     inside = λ b. sound.inside outside;
     begun = λ b. absurd (let bad : true ≡ false = sym b ∙ rows in cc);
     closed = closed;
+    due = λ d. sound.inside outside;
     fits = sound.fits;
   };
 }
@@ -290,7 +302,8 @@ between_only bodies.Between kind e = refl
 between_only _ kind e = absurd cc
 
 pub rows_only : (body : Body) → takes body kinds.Row ≡ true → is_rows body ≡ true
-rows_only (bodies.Rows operation) e = refl
+rows_only bodies.Rows e = refl
+rows_only bodies.RowsDue e = refl
 rows_only _ e = absurd cc
 
 -- ---- lines that change nothing
@@ -307,6 +320,11 @@ closed_law s sound at idle = still s (OfMark marks.Closed) bodies.Closed sound (
     file_end _ e = absurd cc
 
 -- ---- transactions
+
+stage_named : (stage : Stage) → is_named stage ≡ true → stage ≡ stages.Named
+stage_named stages.Named e = refl
+stage_named stages.Idle e = absurd cc
+stage_named stages.Begun e = absurd cc
 
 pub begin_law : (s t : Standing) → Sound s → takes s.body kinds.Statement ≡ true → begin_line s ≡ Ok t → Tells s (OfMark marks.Begin) (record t { body = bodies.Statement })
 unfolding begin_line
@@ -326,28 +344,48 @@ begin_law s t sound at h =
         inside = λ b. quiet.1;
         begun = λ b. refl;
         closed = λ c. closed_not c;
+        due = λ d. quiet.1;
         fits = sound.fits;
       };
     })
-  where
-    stage_named : (stage : Stage) → is_named stage ≡ true → stage ≡ stages.Named
-    stage_named stages.Named e = refl
-    stage_named stages.Idle e = absurd cc
-    stage_named stages.Begun e = absurd cc
+
+-- a statement that flushes is a whole transaction
+pub flush_law : (s t : Standing) → Sound s → takes s.body kinds.Statement ≡ true → flush_line s ≡ Ok t → Tells s (OfMark marks.Flush) (record t { body = bodies.Statement })
+unfolding flush_line
+flush_law s t sound at h =
+    let p = if_ok (is_named s.stage) (with_entry s []) refusals.Transaction t h in
+    let named = stage_named s.stage p.0 in
+    let quiet = sound.quiet (ap is_begun named) in
+    let new : meaning_of_entries (s.entries ++ entry_of s.gtid [] ∷ []) ++ [] ≡ (meaning_of_entries s.entries ++ Names (gtid_text s.gtid) ∷ []) ++ Commits ∷ [] =
+    append-nil (meaning_of_entries (s.entries ++ entry_of s.gtid [] ∷ []))
+    ∙ flat_map_more meaning_of_entry s.entries (entry_of s.gtid [])
+    ∙ sym (append_assoc (meaning_of_entries s.entries) (Names (gtid_text s.gtid) ∷ []) (Commits ∷ [])) in
+    subst (λ (u : Standing). Tells s (OfMark marks.Flush) (record u { body = bodies.Statement })) p.1 (record {
+      spells = new ∙ ap (λ (stage : Stage). (meaning_of_entries s.entries ++ spelled_open stage s.gtid s.changes (row_of s)) ++ Commits ∷ []) (sym named);
+      context = refl;
+      sound = record {
+        quiet = λ b. quiet;
+        inside = λ b. quiet.1;
+        begun = λ b. absurd (let bad : true ≡ false = sym b in cc);
+        closed = λ c. closed_not c;
+        due = λ d. quiet.1;
+        fits = sound.fits;
+      };
+    })
 
 pub commit_law : (s t : Standing) (mark : Mark) (body : Body) → Sound s → is_rows s.body ≡ false → is_rows body ≡ false → is_closed body ≡ false → means (context_of s) (OfMark mark) ≡ Commits ∷ [] → context_behind (context_of s) (OfMark mark) ≡ context_of s → commit_line s ≡ Ok t → Tells s (OfMark mark) (record t { body = body })
 unfolding commit_line
 commit_law s t mark body sound outside rows closed commits same h =
-    let p = if_ok (is_begun s.stage) (record s { stage = stages.Idle; changes = []; entries = s.entries ++ open_entry s ∷ [] }) refusals.Transaction t h in
-    let begun = stage_begun s.stage p.0 in
+    let p = if_ok (not s.is_open && is_begun s.stage) (record (with_entry s s.changes) { changes = [] }) refusals.Transaction t h in
+    let begun = stage_begun s.stage (and_parts (not s.is_open) (is_begun s.stage) p.0).1 in
     let none = sound.inside outside in
     let row_none : row_of s ≡ [] = ap (λ (r : Option (List ℕ)). spelled_row r s.operation s.part s.before s.after) none in
     let old : spelled_state s ≡ meaning_of_entries s.entries ++ (Names (gtid_text s.gtid) ∷ flat_map meaning_of_change s.changes) =
     (λ i. meaning_of_entries s.entries ++ spelled_open (begun i) s.gtid s.changes (row_none i))
     ∙ ap (λ (xs : List Meaning). meaning_of_entries s.entries ++ (Names (gtid_text s.gtid) ∷ xs)) (append-nil (flat_map meaning_of_change s.changes)) in
-    let new : meaning_of_entries (s.entries ++ open_entry s ∷ []) ++ [] ≡ (meaning_of_entries s.entries ++ (Names (gtid_text s.gtid) ∷ flat_map meaning_of_change s.changes)) ++ Commits ∷ [] =
-    append-nil (meaning_of_entries (s.entries ++ open_entry s ∷ []))
-    ∙ flat_map_more meaning_of_entry s.entries (open_entry s)
+    let new : meaning_of_entries (s.entries ++ entry_of s.gtid s.changes ∷ []) ++ [] ≡ (meaning_of_entries s.entries ++ (Names (gtid_text s.gtid) ∷ flat_map meaning_of_change s.changes)) ++ Commits ∷ [] =
+    append-nil (meaning_of_entries (s.entries ++ entry_of s.gtid s.changes ∷ []))
+    ∙ flat_map_more meaning_of_entry s.entries (entry_of s.gtid s.changes)
     ∙ sym (append_assoc (meaning_of_entries s.entries) (Names (gtid_text s.gtid) ∷ flat_map meaning_of_change s.changes) (Commits ∷ [])) in
     subst (λ (u : Standing). Tells s (OfMark mark) (record u { body = body })) p.1 (record {
       spells = new ∙ ap (λ (xs : List Meaning). xs ++ Commits ∷ []) (sym old) ∙ ap (λ (xs : List Meaning). spelled_state s ++ xs) (sym commits);
@@ -357,9 +395,14 @@ commit_law s t mark body sound outside rows closed commits same h =
         inside = λ b. none;
         begun = λ b. absurd (let bad : true ≡ false = sym b ∙ rows in cc);
         closed = λ c. refl;
+        due = λ d. none;
         fits = sound.fits;
       };
     })
+
+-- a transaction is named
+abbrev with_gtid : Standing → Gtid → Standing
+with_gtid s g = record s { stage = stages.Named; gtid = g; is_fresh = false; file = files.Later; come = set.insert s.come g }
 
 pub gtid_law : (s t : Standing) (word : List ℕ) → Sound s → takes s.body kinds.Gtid ≡ true → gtid_line s word ≡ Ok t → Tells s (OfGtid word) t
 unfolding gtid_line
@@ -380,6 +423,7 @@ gtid_law s t word sound at h =
         inside = λ b. quiet.1;
         begun = λ b. absurd (let bad : true ≡ false = sym b ∙ q.0 in cc);
         closed = λ c. absurd (closed_gtid s.body at c);
+        due = λ d. quiet.1;
         fits = sound.fits;
       };
     })
@@ -393,11 +437,11 @@ gtid_law s t word sound at h =
     closed_gtid bodies.Gtid e c = absurd cc
     closed_gtid _ e c = absurd cc
 
-    named : (s : Standing) (word : List ℕ) (o : Option Gtid) (t : Standing) → (or_refused refusals.Gtid o >>= λ g. Ok (record s { stage = stages.Named; gtid = g; is_fresh = false })) ≡ Ok t → (g : Gtid) × (o ≡ Some g) × (record s { stage = stages.Named; gtid = g; is_fresh = false } ≡ t)
+    named : (s : Standing) (word : List ℕ) (o : Option Gtid) (t : Standing) → (or_refused refusals.Gtid o >>= λ g. Ok (with_gtid s g)) ≡ Ok t → (g : Gtid) × (o ≡ Some g) × (with_gtid s g ≡ t)
     named s word None t e = absurd cc
     named s word (Some g) t e = (g, refl, same_ok _ t e)
 
-    idle_or : (stage : Stage) (s : Standing) (word : List ℕ) (t : Standing) → cond (not (is_idle stage)) (Err refusals.Gtid) (or_refused refusals.Gtid (gtid_of_word word) >>= λ g. Ok (record s { stage = stages.Named; gtid = g; is_fresh = false })) ≡ Ok t → (is_idle stage ≡ true) × (g : Gtid) × (gtid_of_word word ≡ Some g) × (record s { stage = stages.Named; gtid = g; is_fresh = false } ≡ t)
+    idle_or : (stage : Stage) (s : Standing) (word : List ℕ) (t : Standing) → cond (not (is_idle stage)) (Err refusals.Gtid) (or_refused refusals.Gtid (gtid_of_word word) >>= λ g. Ok (with_gtid s g)) ≡ Ok t → (is_idle stage ≡ true) × (g : Gtid) × (gtid_of_word word ≡ Some g) × (with_gtid s g ≡ t)
     idle_or stages.Idle s word t e = let n = named s word (gtid_of_word word) t e in (refl, n.0, n.1, n.2)
     idle_or stages.Named s word t e = absurd cc
     idle_or stages.Begun s word t e = absurd cc

@@ -12,13 +12,15 @@ use Rattle.binlog_text.proofs.LinesFound.{line_found}
 use Rattle.binlog_entries.specs.Machine.{Standing, ◌>>=◌, judge, step, step_by, runs, is_closed}
 use Rattle.binlog_entries.specs.Machine as machine
 use Rattle.binlog_entries.specs.Meaning.{meaning_of_entries}
-use Rattle.binlog_entries.specs.Stream.{Progress, Reading, Stopped, next_number, progress_after, feed_byte, feed_bytes, start, Seen, LogValue, end_of_text, closing, IsPieceFault, Ends, ended_line, HaveContents, IsLog, judges, numbered, IsRefused, IsUnfinished, Refuses}
+use Rattle.gtid_set.specs.Sets.{Gtids}
+use Rattle.binlog_entries.specs.Stream.{Progress, Reading, Stopped, named_line, next_number, progress_after, feed_byte, feed_bytes, start, Seen, LogValue, end_of_text, closing, IsPieceFault, IsTextFault, Ends, ended_line, HaveContents, IsLog, judges, numbered, IsRefused, IsUnfinished, Refuses}
 use Rattle.binlog_entries.specs.declared.fault.ReadFault.{ReadFault}
 use Rattle.binlog_entries.specs.declared.fault.ReadFault.TheVariants as faults
 use Rattle.binlog_entries.specs.declared.fault.EntryRefusal.{EntryRefusal}
 use Rattle.binlog_entries.proofs.TransactionLaws.{bind_ok}
 use Rattle.binlog_entries.proofs.Meanings.{entries_told}
-use Rattle.binlog_entries.proofs.KeptLaws.{before_told, varied_told}
+use Rattle.binlog_entries.proofs.KeptLaws.{before_told, varied_told, gapless_told}
+use Rattle.binlog_entries.proofs.RowsDue.{rows_told}
 use Rattle.binlog_entries.proofs.Pieces.{stopped_stays}
 
 -- ---- lines out of bytes
@@ -53,7 +55,7 @@ fed s n b rest bs (Ok u) t m more one is j next e =
       run = ap (λ (x : Result Standing EntryRefusal). x >>= λ v. judges v k.lines) j ∙ k.run;
       number = k.number;
     }
-fed s n b rest bs (Err refusal) t m more one is j next e = absurd (let bad : Stopped (faults.Line (next_number n) refusal) ≡ Reading t m more = sym (stopped_stays (faults.Line (next_number n) refusal) bs) ∙ e in cc)
+fed s n b rest bs (Err refusal) t m more one is j next e = absurd (let bad : Stopped (faults.Line (named_line refusal (next_number n)) refusal) ≡ Reading t m more = sym (stopped_stays (faults.Line (named_line refusal (next_number n)) refusal) bs) ∙ e in cc)
 
 eaten : (s : Standing) (n b : ℕ) (rest bs : List ℕ) (test : Bool) (t : Standing) (m : ℕ) (more : List ℕ) → IsOneLine rest → eqb b 10 ≡ test
     → ((u : Standing) (k : ℕ) (rest : List ℕ) → IsOneLine rest → feed_bytes (Reading u k rest) bs ≡ Reading t m more → Reads u k rest bs t m more)
@@ -97,7 +99,7 @@ pub record Stops (s : Standing) (n : ℕ) (rest bytes : List ℕ) (fault : ReadF
   pub taken : judges s before ≡ Ok state
   pub refusal : EntryRefusal
   pub refused : judge state line ≡ Err refusal
-  pub is : fault ≡ faults.Line (next_number (numbered n before)) refusal
+  pub is : fault ≡ faults.Line (named_line refusal (next_number (numbered n before))) refusal
 
 stop_fed : (s : Standing) (n b : ℕ) (rest bs : List ℕ) (r : Result Standing EntryRefusal) (f : ReadFault) → IsOneLine rest → b ≡ 10 → judge s rest ≡ r
     → ((u : Standing) → feed_bytes (Reading u (next_number n) []) bs ≡ Stopped f → Stops u (next_number n) [] bs f)
@@ -116,7 +118,7 @@ stop_fed s n b rest bs (Ok u) f one is j next e =
       is = k.is;
     }
 stop_fed s n b rest bs (Err refusal) f one is j next e =
-    let same : Stopped (faults.Line (next_number n) refusal) ≡ Stopped f = sym (stopped_stays (faults.Line (next_number n) refusal) bs) ∙ e in record {
+    let same : Stopped (faults.Line (named_line refusal (next_number n)) refusal) ≡ Stopped f = sym (stopped_stays (faults.Line (named_line refusal (next_number n)) refusal) bs) ∙ e in record {
       before = [];
       line = rest;
       more = bs;
@@ -189,26 +191,28 @@ ended_is true s n [] x e = let same : (s.previous, s.entries, s.varied) ≡ x = 
 ended_is true s n (b ∷ bs) x e = absurd cc
 ended_is false s n rest x e = absurd cc
 
-log_of : (text : List ℕ) (p : Progress) (x : LogValue) → feed_bytes start text ≡ p → closing p ≡ Ok x → IsLog text x.0 x.1 x.2
-log_of text (Stopped fault) x e h = absurd cc
-log_of text (Reading s n rest) x e h =
+log_of : (opening : Gtids) (text : List ℕ) (p : Progress) (x : LogValue) → feed_bytes (start opening) text ≡ p → closing p ≡ Ok x → IsLog opening text x.0 x.1 x.2
+log_of opening text (Stopped fault) x e h = absurd cc
+log_of opening text (Reading s n rest) x e h =
     let d = ended_is (is_closed s.body) s n rest x h in
-    let k = reads_back machine.start 0 [] text s n rest refl e in
-    let spoken = speak machine.start k.lines s k.run in
+    let k = reads_back (machine.start opening) 0 [] text s n rest refl e in
+    let spoken = speak (machine.start opening) k.lines s k.run in
     record {
       lines = k.lines;
       parts = k.parts ∙ ap (λ (xs : List ℕ). flat_map ended_line k.lines ++ xs) d.1 ∙ append-nil (flat_map ended_line k.lines);
       whole = k.whole;
       contents = spoken.contents;
       content = spoken.content;
-      means = entries_told spoken.contents s spoken.run d.0 ∙ ap meaning_of_entries d.3;
-      before = sym d.2 ∙ before_told spoken.contents s spoken.run;
-      varies = sym d.4 ∙ varied_told spoken.contents s spoken.run;
+      means = entries_told opening spoken.contents s spoken.run d.0 ∙ ap meaning_of_entries d.3;
+      before = sym d.2 ∙ before_told opening spoken.contents s spoken.run;
+      varies = sym d.4 ∙ varied_told opening spoken.contents s spoken.run;
+      rows = rows_told opening spoken.contents s spoken.run d.0;
+      gapless = gapless_told opening spoken.contents s spoken.run;
     }
 
-pub read_found : (text : List ℕ) (x : LogValue) → Ends (IsPieceFault start text) (Ok x) (closing (feed_bytes start text)) → IsLog text x.0 x.1 x.2
-read_found text x (inl h) = absurd (let bad = h.1 in cc)
-read_found text x (inr h) = log_of text (feed_bytes start text) x refl (sym h)
+pub read_found : (opening : Gtids) (text : List ℕ) (x : LogValue) → Ends (IsTextFault opening text) (Ok x) (closing (feed_bytes (start opening) text)) → IsLog opening text x.0 x.1 x.2
+read_found opening text x (inl h) = absurd (let bad = h.1 in cc)
+read_found opening text x (inr h) = log_of opening text (feed_bytes (start opening) text) x refl (sym h)
 
 unended : (b : Bool) (s : Standing) (n m : ℕ) (rest : List ℕ) → end_of_text b s n rest ≡ Err (faults.Unfinished m) → ((b ≡ true) × (rest ≡ []) → ⊥) × (m ≡ next_number n)
 unended true s n m [] e = absurd cc
@@ -220,11 +224,11 @@ line_not_ended true s n m [] refusal e = absurd cc
 line_not_ended true s n m (b ∷ bs) refusal e = absurd cc
 line_not_ended false s n m rest refusal e = absurd cc
 
-refused_at : (text : List ℕ) (p : Progress) (n : ℕ) (refusal : EntryRefusal) → feed_bytes start text ≡ p → closing p ≡ Err (faults.Line n refusal) → IsRefused text n refusal
-refused_at text (Reading s m rest) n refusal e h = absurd (line_not_ended (is_closed s.body) s m n rest refusal h)
-refused_at text (Stopped f) n refusal e h =
-    let k = stops_back machine.start 0 [] text f refl e in
-    let same : faults.Line (next_number (numbered 0 k.before)) k.refusal ≡ faults.Line n refusal = sym k.is ∙ fault_same f (faults.Line n refusal) h in
+refused_at : (opening : Gtids) (text : List ℕ) (p : Progress) (n : ℕ) (refusal : EntryRefusal) → feed_bytes (start opening) text ≡ p → closing p ≡ Err (faults.Line n refusal) → IsRefused opening text n refusal
+refused_at opening text (Reading s m rest) n refusal e h = absurd (line_not_ended (is_closed s.body) s m n rest refusal h)
+refused_at opening text (Stopped f) n refusal e h =
+    let k = stops_back (machine.start opening) 0 [] text f refl e in
+    let same : faults.Line (named_line k.refusal (next_number (numbered 0 k.before))) k.refusal ≡ faults.Line n refusal = sym k.is ∙ fault_same f (faults.Line n refusal) h in
     record {
       before = k.before;
       line = k.line;
@@ -234,7 +238,9 @@ refused_at text (Stopped f) n refusal e h =
       state = k.state;
       taken = k.taken;
       refused = k.refused ∙ ap (λ (r : EntryRefusal). let x : Result Standing EntryRefusal = Err r in x) (line_same _ n k.refusal refusal same).1;
-      number = sym (line_same _ n k.refusal refusal same).0;
+      number =
+          sym (line_same _ n k.refusal refusal same).0
+          ∙ ap (λ (r : EntryRefusal). named_line r (next_number (numbered 0 k.before))) (line_same _ n k.refusal refusal same).1;
     }
   where
     fault_same : (f g : ReadFault) → (let x : Result LogValue ReadFault = Err f in x) ≡ Err g → f ≡ g
@@ -243,15 +249,15 @@ refused_at text (Stopped f) n refusal e h =
     line_same : (n m : ℕ) (r q : EntryRefusal) → faults.Line n r ≡ faults.Line m q → (n ≡ m) × (r ≡ q)
     line_same n m r q e = (cc, cc)
 
-unfinished_at : (text : List ℕ) (p : Progress) (n : ℕ) → feed_bytes start text ≡ p → closing p ≡ Err (faults.Unfinished n) → IsUnfinished text n
-unfinished_at text (Stopped f) n e h =
-    let k = stops_back machine.start 0 [] text f refl e in
-    absurd (let bad : faults.Line (next_number (numbered 0 k.before)) k.refusal ≡ faults.Unfinished n = sym k.is ∙ fault_same f (faults.Unfinished n) h in cc)
+unfinished_at : (opening : Gtids) (text : List ℕ) (p : Progress) (n : ℕ) → feed_bytes (start opening) text ≡ p → closing p ≡ Err (faults.Unfinished n) → IsUnfinished opening text n
+unfinished_at opening text (Stopped f) n e h =
+    let k = stops_back (machine.start opening) 0 [] text f refl e in
+    absurd (let bad : faults.Line (named_line k.refusal (next_number (numbered 0 k.before))) k.refusal ≡ faults.Unfinished n = sym k.is ∙ fault_same f (faults.Unfinished n) h in cc)
   where
     fault_same : (f g : ReadFault) → (let x : Result LogValue ReadFault = Err f in x) ≡ Err g → f ≡ g
     fault_same f g e = cc
-unfinished_at text (Reading s m rest) n e h =
-    let k = reads_back machine.start 0 [] text s m rest refl e in
+unfinished_at opening text (Reading s m rest) n e h =
+    let k = reads_back (machine.start opening) 0 [] text s m rest refl e in
     let u = unended (is_closed s.body) s m n rest h in
     record {
       before = k.lines;
@@ -265,38 +271,50 @@ unfinished_at text (Reading s m rest) n e h =
     }
 
 -- the fold over the bytes knows of lines and the end alone
-set_not_ended : (text : List ℕ) (fault : SetFault) (p : Progress) → feed_bytes start text ≡ p → (let x : Result LogValue ReadFault = Err (faults.Set fault) in x) ≡ closing p → ⊥
-set_not_ended text fault (Reading s n rest) e h = not_owed (is_closed s.body) s n rest h
+set_not_ended : (opening : Gtids) (text : List ℕ) (fault : SetFault) (p : Progress) → feed_bytes (start opening) text ≡ p → (let x : Result LogValue ReadFault = Err (faults.Set fault) in x) ≡ closing p → ⊥
+set_not_ended opening text fault (Reading s n rest) e h = not_owed (is_closed s.body) s n rest h
   where
     not_owed : (b : Bool) (s : Standing) (n : ℕ) (rest : List ℕ) → (let x : Result LogValue ReadFault = Err (faults.Set fault) in x) ≡ end_of_text b s n rest → ⊥
     not_owed true s n [] h = cc
     not_owed true s n (b ∷ bs) h = cc
     not_owed false s n rest h = cc
-set_not_ended text fault (Stopped f) e h =
-    let k = stops_back machine.start 0 [] text f refl e in
-    let bad : faults.Set fault ≡ faults.Line (next_number (numbered 0 k.before)) k.refusal = fault_same (faults.Set fault) f h ∙ k.is in
+set_not_ended opening text fault (Stopped f) e h =
+    let k = stops_back (machine.start opening) 0 [] text f refl e in
+    let bad : faults.Set fault ≡ faults.Line (named_line k.refusal (next_number (numbered 0 k.before))) k.refusal = fault_same (faults.Set fault) f h ∙ k.is in
     cc
   where
     fault_same : (f g : ReadFault) → (let x : Result LogValue ReadFault = Err f in x) ≡ Err g → f ≡ g
     fault_same f g e = cc
 
-pub read_refused : (text : List ℕ) (fault : ReadFault) → Ends (IsPieceFault start text) (Err fault) (closing (feed_bytes start text)) → Refuses fault text
-read_refused text (faults.Set fault) (inl h) = subst (IsPieceFault start text) (set_same h.0 fault h.1) h.2
+pub read_refused : (opening : Gtids) (text : List ℕ) (fault : ReadFault) → Ends (IsTextFault opening text) (Err fault) (closing (feed_bytes (start opening) text)) → Refuses opening fault text
+read_refused opening text (faults.Set fault) (inl h) = subst (IsTextFault opening text) (set_same h.0 fault h.1) h.2
   where
     set_same : (f g : SetFault) → (let x : Result LogValue ReadFault = Err (faults.Set g) in x) ≡ Err (faults.Set f) → f ≡ g
     set_same f g e = cc
-read_refused text (faults.Set fault) (inr h) = absurd (set_not_ended text fault (feed_bytes start text) refl h)
-read_refused text (faults.Line n refusal) (inl h) = absurd (let bad = h.1 in cc)
-read_refused text (faults.Line n refusal) (inr h) = refused_at text (feed_bytes start text) n refusal refl (sym h)
-read_refused text (faults.Unfinished n) (inl h) = absurd (let bad = h.1 in cc)
-read_refused text (faults.Unfinished n) (inr h) = unfinished_at text (feed_bytes start text) n refl (sym h)
+read_refused opening text (faults.Set fault) (inr h) = absurd (set_not_ended opening text fault (feed_bytes (start opening) text) refl h)
+read_refused opening text (faults.Line n refusal) (inl h) = absurd (let bad = h.1 in cc)
+read_refused opening text (faults.Line n refusal) (inr h) = refused_at opening text (feed_bytes (start opening) text) n refusal refl (sym h)
+read_refused opening text (faults.Unfinished n) (inl h) = absurd (let bad = h.1 in cc)
+read_refused opening text (faults.Unfinished n) (inr h) = unfinished_at opening text (feed_bytes (start opening) text) n refl (sym h)
 
 -- ---- of what was read
 
-pub seen_found : {X : Type 0} (view : X → LogValue) (text : List ℕ) (r : Result X ReadFault) → Ends (IsPieceFault start text) (Seen view r) (closing (feed_bytes start text)) → IfOk r (λ x. IsLog text (view x).0 (view x).1 (view x).2)
-seen_found view text (Ok x) h = read_found text (view x) h
-seen_found view text (Err fault) h = tt
+pub seen_found : {X : Type 0} (view : X → LogValue) (opening : Gtids) (text : List ℕ) (r : Result X ReadFault) → Ends (IsTextFault opening text) (Seen view r) (closing (feed_bytes (start opening) text)) → IfOk r (λ x. IsLog opening text (view x).0 (view x).1 (view x).2)
+seen_found view opening text (Ok x) h = read_found opening text (view x) h
+seen_found view opening text (Err fault) h = tt
 
-pub seen_refused : {X : Type 0} (view : X → LogValue) (text : List ℕ) (r : Result X ReadFault) → Ends (IsPieceFault start text) (Seen view r) (closing (feed_bytes start text)) → IfErr r (λ fault. Refuses fault text)
-seen_refused view text (Ok x) h = tt
-seen_refused view text (Err fault) h = read_refused text fault h
+pub seen_refused : {X : Type 0} (view : X → LogValue) (opening : Gtids) (text : List ℕ) (r : Result X ReadFault) → Ends (IsTextFault opening text) (Seen view r) (closing (feed_bytes (start opening) text)) → IfErr r (λ fault. Refuses opening fault text)
+seen_refused view opening text (Ok x) h = tt
+seen_refused view opening text (Err fault) h = read_refused opening text fault h
+
+-- ---- a copy of the opening set was refused memory, or it was read
+
+text_fault : (opening : Gtids) (text : List ℕ) (result whole : Result LogValue ReadFault) → Ends (IsPieceFault (start opening) text) result whole → Ends (IsTextFault opening text) result whole
+text_fault opening text result whole (inl h) = inl (h.0, h.1, inl h.2)
+text_fault opening text result whole (inr h) = inr h
+
+abbrev pub EndsWhole : Gtids → List ℕ → Result LogValue ReadFault → Type 0
+EndsWhole opening text result = Ends (IsTextFault opening text) result (closing (feed_bytes (start opening) text))
+
+pub read_copied : (opening copy : Gtids) (text : List ℕ) (result : Result LogValue ReadFault) → copy ≡ opening → Ends (IsPieceFault (start copy) text) result (closing (feed_bytes (start copy) text)) → EndsWhole opening text result
+read_copied opening copy text result same h = subst (λ (o : Gtids). EndsWhole o text result) same (text_fault copy text result (closing (feed_bytes (start copy) text)) h)

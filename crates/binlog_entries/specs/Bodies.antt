@@ -1,5 +1,5 @@
 -- Which lines are allowed where in the text of a binary log.
-use Rattle.std.specs.Prelude.{Bool, true, false}
+use Rattle.std.specs.Prelude.{Bool, true, false, if◌then◌else◌}
 use Rattle.binlog_text.specs.declared.lines.Event.{Event}
 use Rattle.binlog_text.specs.declared.lines.Event.TheVariants as events
 use Rattle.binlog_text.specs.declared.lines.Mark.{Mark}
@@ -25,6 +25,8 @@ kind_of_mark marks.Closed = kinds.Closed
 kind_of_mark marks.Comment = kinds.Comment
 kind_of_mark marks.Setting = kinds.Setting
 kind_of_mark marks.Frame = kinds.Frame
+kind_of_mark marks.Extra = kinds.Extra
+kind_of_mark marks.Flush = kinds.Statement
 
 abbrev pub kind_of : Content → Kind
 kind_of (OfMark mark) = kind_of_mark mark
@@ -36,20 +38,30 @@ kind_of (OfSources sources more) = kinds.Sources
 kind_of (OfRow operation database table) = kinds.Row
 kind_of (OfValue n text) = kinds.Row
 
+-- the rows of a statement come behind the event that ends it, which owes one; those before it have none
+abbrev pub rows_body : Bool → Body
+rows_body ends = if ends then bodies.RowsDue else bodies.Done
+
 -- what the lines after an event's head are a part of
 abbrev pub body_of : Event → Body
 body_of events.Start = bodies.Start
 body_of events.PreviousGtids = bodies.PreviousGtids
 body_of events.Gtid = bodies.Gtid
 body_of events.Query = bodies.Query
-body_of (events.Rows operation) = bodies.Rows operation
+body_of (events.Rows operation ends) = rows_body ends
 body_of events.Xid = bodies.Xid
 body_of events.Payload = bodies.Payload
 body_of events.Rotate = bodies.Done
 body_of events.Stop = bodies.Done
 
--- no line is owed: a statement owes its text and the end of it, an Xid its commit
+-- a row is owed
+abbrev pub is_row_due : Body → Bool
+is_row_due bodies.RowsDue = true
+is_row_due _ = false
+
+-- no line is owed: a statement owes its text and the end of it, an Xid its commit, and a rows event may owe a row
 abbrev pub may_end : Body → Bool
+may_end bodies.RowsDue = false
 may_end bodies.Query = false
 may_end bodies.Statement = false
 may_end bodies.Xid = false
@@ -81,12 +93,20 @@ takes bodies.Between kinds.TableMap = true
 takes bodies.TableMap kinds.Column = true
 takes bodies.Gtid kinds.Gtid = true
 takes bodies.PreviousGtids kinds.Sources = true
-takes (bodies.Rows operation) kinds.Row = true
+takes bodies.Rows kinds.Row = true
+takes bodies.Rows kinds.Extra = true
+takes bodies.RowsDue kinds.Row = true
+takes bodies.RowsDue kinds.Extra = true
 takes bodies.Query kinds.Statement = true
 takes bodies.Statement kinds.Ended = true
 takes bodies.Xid kinds.Committed = true
 takes bodies.FileEnd kinds.Closed = true
 takes _ _ = false
+
+-- the row that was owed has come
+abbrev pub row_behind : Body → Body
+row_behind bodies.RowsDue = bodies.Rows
+row_behind body = body
 
 -- what the line after one of this kind is a part of, where that is no head of an event
 abbrev pub behind : Body → Kind → Body
@@ -97,6 +117,7 @@ behind body kinds.Ended = bodies.Done
 behind body kinds.Committed = bodies.Done
 behind body kinds.Automatic = bodies.FileEnd
 behind body kinds.Closed = bodies.Closed
+behind body kinds.Row = row_behind body
 behind body _ = body
 
 -- what the line after one is a part of

@@ -8,46 +8,56 @@ use Rattle.txn_journal.specs.Spelling.{spelling_as}
 use Rattle.txn_journal.specs.Stamps.{right_stamps}
 use Rattle.txn_journal.specs.declared.lines.Version.TheVariants.{Two}
 use Rattle.binlog_entries.specs.Journals.{IsNoJournal}
-use Rattle.binlog_entries.specs.Keys.{place_varied}
+use Rattle.binlog_entries.specs.Keys.{varied_key, varied_places}
 use Rattle.binlog_entries.specs.Stream.{IsLog, Refuses}
 use Rattle.binlog_entries.specs.declared.varied.Varied.{Varied}
 use Rattle.binlog_entries.specs.declared.as_journal.LogFault.{LogFault}
+use Rattle.gtid_set.specs.declared.fault.SetFault.TheVariants.{Memory}
+use Rattle.binlog_entries.specs.declared.fault.ReadFault.TheVariants as reads
 use Rattle.binlog_entries.specs.declared.import.ImportFault.{ImportFault}
 use Rattle.binlog_entries.specs.declared.import.ImportFault.TheVariants as faults
 
 -- the server compares each key of these tables by its bytes, or that is not required
 abbrev pub AreKeysTaken : List Table → Bool → List Varied → Type 0
-AreKeysTaken tables bytes varied = bytes ≡ false → place_varied tables varied ≡ None
+AreKeysTaken tables bytes varied = bytes ≡ false → varied_key tables varied ≡ None
 
 -- What is written is the text of a journal whose entries denote what the lines of the log's text mean, after what was executed before by
--- these lines. The server compares each key by its bytes, unless that is not required.
-pub record Imports (tables : List Table) (bytes : Bool) (text written : List ℕ) : Type 0 where
+-- these lines. The server compares each key by its bytes, unless that is not required: then these are the places of the tables with a key
+-- that it doesn't.
+pub record Imports (tables : List Table) (opening : Gtids) (bytes : Bool) (text written places : List ℕ) : Type 0 where
   pub journal : JournalValue
   pub varied : List Varied
-  pub log : IsLog text journal.previous journal.entries varied
+  pub log : IsLog opening text journal.previous journal.entries varied
   pub keys : AreKeysTaken tables bytes varied
+  pub varies : places ≡ varied_places 0 tables varied
   pub spells : written ≡ spelling_as Two (right_stamps Two tables journal.entries) journal
 
 -- the text is that of a log whose keys are taken, and its first entry that does not follow those before it has this fault
-pub record IsUnfit (tables : List Table) (bytes : Bool) (fault : LogFault) (text : List ℕ) : Type 0 where
+pub record IsUnfit (tables : List Table) (opening : Gtids) (bytes : Bool) (fault : LogFault) (text : List ℕ) : Type 0 where
   pub previous : Gtids
   pub entries : List Entry
   pub varied : List Varied
-  pub log : IsLog text previous entries varied
+  pub log : IsLog opening text previous entries varied
   pub keys : AreKeysTaken tables bytes varied
   pub unfit : IsNoJournal fault previous entries
 
--- the text is that of a log, and the first key that the server compares otherwise than its bytes is one of this table
-pub record HasVariedKey (tables : List Table) (place : ℕ) (text : List ℕ) : Type 0 where
+-- the text is that of a log, and the first column of a key that the server compares otherwise than its bytes is this one of this table
+pub record HasVariedKey (tables : List Table) (opening : Gtids) (table : List ℕ) (column : ℕ) (text : List ℕ) : Type 0 where
   pub previous : Gtids
   pub entries : List Entry
   pub varied : List Varied
-  pub log : IsLog text previous entries varied
-  pub key : place_varied tables varied ≡ Some place
+  pub log : IsLog opening text previous entries varied
+  pub key : varied_key tables varied ≡ Some (table, column)
+
+-- the fault names the first column of a key that the server compares otherwise than its bytes, or memory was refused for it
+abbrev pub IsKeyFault : List Table → Bool → List Varied → ImportFault → Type 0
+IsKeyFault tables bytes varied (faults.Key table column) = (bytes ≡ false) × (varied_key tables varied ≡ Some (table, column))
+IsKeyFault tables bytes varied (faults.Text fault) = fault ≡ reads.Set Memory
+IsKeyFault tables bytes varied (faults.Log fault) = ⊥
 
 -- A line is refused, or else a key, where keys are tested, or else an entry. Where memory was refused for the journal, nothing is
 -- claimed of it.
-abbrev pub IsNoImport : List Table → Bool → ImportFault → List ℕ → Type 0
-IsNoImport tables bytes (faults.Text fault) text = Refuses fault text
-IsNoImport tables bytes (faults.Key place) text = (bytes ≡ false) × HasVariedKey tables place text
-IsNoImport tables bytes (faults.Log fault) text = IsUnfit tables bytes fault text
+abbrev pub IsNoImport : List Table → Gtids → Bool → ImportFault → List ℕ → Type 0
+IsNoImport tables opening bytes (faults.Text fault) text = Refuses opening fault text
+IsNoImport tables opening bytes (faults.Key table column) text = (bytes ≡ false) × HasVariedKey tables opening table column text
+IsNoImport tables opening bytes (faults.Log fault) text = IsUnfit tables opening bytes fault text

@@ -1,6 +1,7 @@
 pub mod Tables
 pub mod Bodies
 pub mod Unread
+pub mod Files
 pub mod Varied
 pub mod Keys
 pub mod Machine
@@ -8,5 +9,6 @@ pub mod Drafts
 pub mod Meaning
 pub mod Stream
 pub mod Readers
+pub mod Limits
 pub mod Journals
 pub mod Imports

@@ -26,11 +26,14 @@ use Rattle.binlog_text.specs.Lines.{Column, Content, OfMark, OfHead, OfTable, Of
 use Rattle.binlog_text.specs.Reading.{line_of}
 use Rattle.binlog_entries.specs.Tables.{Table, find_table, with_mapping, type_at}
 use Rattle.binlog_entries.specs.Bodies.{kind_of, takes, next_body}
-use Rattle.binlog_entries.specs.Unread.{refusal_of}
+use Rattle.binlog_entries.specs.Unread.{refusal_at, refusal_of}
+use Rattle.binlog_entries.specs.Files.{is_later, next_file, has_come, come_behind}
 use Rattle.binlog_entries.specs.Varied.{varied_behind}
 use Rattle.binlog_entries.specs.declared.varied.Varied.{Varied}
 use Rattle.binlog_entries.specs.declared.bodies.Body.{Body}
 use Rattle.binlog_entries.specs.declared.bodies.Body.TheVariants as bodies
+use Rattle.binlog_entries.specs.declared.draft.File.{File}
+use Rattle.binlog_entries.specs.declared.draft.File.TheVariants as files
 use Rattle.binlog_entries.specs.declared.draft.Stage.{Stage}
 use Rattle.binlog_entries.specs.declared.draft.Stage.TheVariants as stages
 use Rattle.binlog_entries.specs.declared.draft.Part.{Part}
@@ -78,8 +81,13 @@ pub record Standing : Type 0 where
   -- whether no GTID has come, and what was executed before, by the files
   pub is_fresh : Bool
   pub previous : Gtids
+  -- the file whose previous set is read, and what came: the opening set, the previous set of the first file, and GTIDs
+  pub file : File
+  pub come : Gtids
   -- rows of the statement have come, so that the next table is another statement's
   pub is_over : Bool
+  -- rows events of a statement have come, and none of them has ended it
+  pub is_open : Bool
   -- the one database of the log, once it is named
   pub database : Option (List ℕ)
   -- the table whose columns come, and those that the statement has mapped before
@@ -155,16 +163,6 @@ abbrev pub may_be_database : List ℕ → Option (List ℕ) → Bool
 may_be_database name None = true
 may_be_database name (Some database) = bytes_eq database name
 
-abbrev pub same_operation : Operation → Operation → Bool
-same_operation operations.Insert operations.Insert = true
-same_operation operations.Update operations.Update = true
-same_operation operations.Delete operations.Delete = true
-same_operation _ _ = false
-
-abbrev pub has_rows_of : Body → Operation → Bool
-has_rows_of (bodies.Rows operation) wanted = same_operation operation wanted
-has_rows_of _ wanted = false
-
 abbrev pub open_row : Standing → Operation → Option (List ℕ) → Result Standing EntryRefusal
 open_row s operation None = Err refusals.Table
 open_row s operation (Some table) = Ok (record s { row = Some table; operation = operation; part = parts.Head })
@@ -174,8 +172,7 @@ known_name table tables = if is_some (find_table table tables) then name_of tabl
 
 abbrev pub begin_row : Standing → Operation → List ℕ → List ℕ → Result Standing EntryRefusal
 begin_row s operation database table =
-    if not (has_rows_of s.body operation) then Err refusals.Format
-    else if not (is_database database s.database) then Err refusals.Table
+    if not (is_database database s.database) then Err refusals.Table
     else open_row s operation (known_name table s.tables)
 
 unfoldable pub row_line : Standing → Operation → List ℕ → List ℕ → Result Standing EntryRefusal
@@ -262,13 +259,21 @@ column_line s c = do
 
 -- ---- transactions
 
-abbrev pub open_entry : Standing → Entry
-open_entry s = record { gtid = s.gtid; txn = record { changes = s.changes } }
+-- the transaction that is open, with these changes
+abbrev pub entry_of : Gtid → List Change → Entry
+entry_of gtid changes = record { gtid = gtid; txn = record { changes = changes } }
+
+abbrev pub with_entry : Standing → List Change → Standing
+with_entry s changes = record s { stage = stages.Idle; entries = s.entries ++ entry_of s.gtid changes ∷ [] }
 
 unfoldable pub commit_line : Standing → Result Standing EntryRefusal
 commit_line s =
-    if is_begun s.stage then Ok (record s { stage = stages.Idle; changes = []; entries = s.entries ++ open_entry s ∷ [] })
+    if not s.is_open && is_begun s.stage then Ok (record (with_entry s s.changes) { changes = [] })
     else Err refusals.Transaction
+
+-- a statement that flushes is a transaction without changes
+unfoldable pub flush_line : Standing → Result Standing EntryRefusal
+flush_line s = if is_named s.stage then Ok (with_entry s []) else Err refusals.Transaction
 
 unfoldable pub begin_line : Standing → Result Standing EntryRefusal
 begin_line s = if is_named s.stage then Ok (record s { stage = stages.Begun }) else Err refusals.Transaction
@@ -278,18 +283,25 @@ gtid_line s word =
     if not (is_idle s.stage) then Err refusals.Gtid
     else (do
       gtid ← or_refused refusals.Gtid (gtid_of_word word)
-      Ok (record s { stage = stages.Named; gtid = gtid; is_fresh = false }))
+      Ok (record s { stage = stages.Named; gtid = gtid; is_fresh = false; file = files.Later; come = set.insert s.come gtid }))
+
+abbrev pub previous_behind : Bool → Gtids → Gtids → Gtids
+previous_behind fresh previous gtids = if fresh then set.union previous gtids else previous
+
+abbrev pub join_sources : Standing → Gtids → Result Standing EntryRefusal
+join_sources s gtids =
+    if has_come s.file s.come gtids then Ok (record s { previous = previous_behind s.is_fresh s.previous gtids; come = come_behind s.file s.come gtids })
+    else Err refusals.Gap
 
 -- what was executed before the first GTID; later files repeat what has come
 unfoldable pub sources_line : Standing → List ℕ → Result Standing EntryRefusal
-sources_line s word =
-    if s.is_fresh then (do
-      gtids ← or_refused refusals.Gtid (set_of_word word)
-      Ok (record s { previous = set.union s.previous gtids }))
-    else Ok s
+sources_line s word = do
+  gtids ← or_refused refusals.Gtid (set_of_word word)
+  join_sources s gtids
 
 unfoldable pub head_line : Standing → Event → Result Standing EntryRefusal
-head_line s (events.Rows operation) = if is_begun s.stage then Ok (record s { is_over = true }) else Err refusals.Transaction
+head_line s (events.Rows operation ends) = if is_begun s.stage then Ok (record s { is_over = true; is_open = not ends }) else Err refusals.Transaction
+head_line s events.PreviousGtids = Ok (record s { file = next_file s.file })
 head_line s _ = Ok s
 
 -- ---- lines
@@ -309,6 +321,8 @@ mark_line s marks.Empty = Ok s
 mark_line s marks.Comment = Ok s
 mark_line s marks.Setting = Ok s
 mark_line s marks.Frame = Ok s
+mark_line s marks.Extra = Ok s
+mark_line s marks.Flush = flush_line s
 
 abbrev pub take_content : Standing → Content → Result Standing EntryRefusal
 take_content s (OfMark mark) = mark_line s mark
@@ -325,7 +339,7 @@ step s l =
     if takes s.body (kind_of l) then (do
       t ← take_content s l
       Ok (record t { body = next_body t.body l }))
-    else Err refusals.Format
+    else Err (refusal_at s.body)
 
 abbrev pub step_by : Standing → List ℕ → Option Content → Result Standing EntryRefusal
 step_by s text None = Err (refusal_of s.body text)
@@ -337,15 +351,24 @@ judge s text = step_by s text (line_of text)
 
 -- ---- faults of lines with which nothing is wrong
 
--- it is so of the set that a word names, or of that set with what was executed before
-abbrev pub OfNamed : (Gtids → Type 0) → Gtids → Option Gtids → Type 0
-OfNamed Has before None = ⊥
-OfNamed Has before (Some gtids) = Has gtids ⊎ Has (set.union before gtids)
+-- it is so of the set that a word names, or of that set with what was executed before, or with what came, where it joins them
+abbrev pub OfNamed : (Gtids → Type 0) → Standing → Option Gtids → Type 0
+OfNamed Has s None = ⊥
+OfNamed Has s (Some gtids) =
+    Has gtids ⊎ (((s.is_fresh ≡ true) × Has (set.union s.previous gtids)) ⊎ ((is_later s.file ≡ false) × Has (set.union s.come gtids)))
 
--- memory was refused, or the set that a word names, or that set with what was executed before, has too many sources or intervals
+-- memory was refused, or the set that a word names, or that set with what was executed before or came, has too many sources or intervals
 abbrev pub IsSourcesFault : Standing → List ℕ → SetFault → Type 0
-IsSourcesFault s word fault =
-    (s.is_fresh ≡ true) × IsMemoryOr (OfNamed HasManySources s.previous (set_of_word word)) (OfNamed HasManyIntervals s.previous (set_of_word word)) fault
+IsSourcesFault s word fault = IsMemoryOr (OfNamed HasManySources s (set_of_word word)) (OfNamed HasManyIntervals s (set_of_word word)) fault
+
+-- it is so of what came, with the GTID that a word names
+abbrev pub WithNamed : (Gtids → Type 0) → Gtids → Option Gtid → Type 0
+WithNamed Has come None = ⊥
+WithNamed Has come (Some gtid) = Has (set.insert come gtid)
+
+-- memory was refused, or what came has too many sources or intervals with the GTID that a word names
+abbrev pub IsGtidFault : Standing → List ℕ → SetFault → Type 0
+IsGtidFault s word fault = IsMemoryOr (WithNamed HasManySources s.come (gtid_of_word word)) (WithNamed HasManyIntervals s.come (gtid_of_word word)) fault
 
 -- the end of an event keeps its row and its table, and that of a transaction its changes; other marks ask for nothing
 abbrev pub IsMarkFault : Mark → SetFault → Type 0
@@ -353,6 +376,7 @@ IsMarkFault marks.Place fault = fault ≡ Memory
 IsMarkFault marks.Automatic fault = fault ≡ Memory
 IsMarkFault marks.Commit fault = fault ≡ Memory
 IsMarkFault marks.Committed fault = fault ≡ Memory
+IsMarkFault marks.Flush fault = fault ≡ Memory
 IsMarkFault _ fault = ⊥
 
 abbrev pub IsContentFault : Standing → Content → SetFault → Type 0
@@ -360,7 +384,7 @@ IsContentFault s (OfMark mark) fault = IsMarkFault mark fault
 IsContentFault s (OfHead event) fault = ⊥
 IsContentFault s (OfTable database table) fault = fault ≡ Memory
 IsContentFault s (OfColumn c) fault = fault ≡ Memory
-IsContentFault s (OfGtid gtid) fault = fault ≡ Memory
+IsContentFault s (OfGtid gtid) fault = IsGtidFault s gtid fault
 IsContentFault s (OfSources sources more) fault = IsSourcesFault s sources fault
 IsContentFault s (OfRow operation database table) fault = fault ≡ Memory
 IsContentFault s (OfValue n text) fault = fault ≡ Memory
@@ -378,15 +402,18 @@ IsFaultBy s (Some l) fault = IsStepFault s l fault
 abbrev pub IsLineFault : Standing → List ℕ → SetFault → Type 0
 IsLineFault s text fault = IsFaultBy s (line_of text) fault
 
--- before the first line
-abbrev pub start : Standing
-start = record {
+-- before the first line, where these GTIDs are in the opening set
+abbrev pub start : Gtids → Standing
+start opening = record {
   body = bodies.Preamble;
   stage = stages.Idle;
-  gtid = record { source = 0; number = 0 };
+  gtid = record { source = 0; number = 1 };
   is_fresh = true;
   previous = set.empty;
+  file = files.Unread;
+  come = opening;
   is_over = false;
+  is_open = false;
   database = None;
   mapping = None;
   tables = [];

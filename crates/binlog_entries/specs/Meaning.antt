@@ -1,10 +1,11 @@
 -- What lines mean, and what entries denote.
-use Rattle.std.specs.Prelude.{ℕ, ◌+◌, ◌-◌, Bool, true, false, List, [], ◌∷◌, ◌++◌, Option, Some, None, if◌then◌else◌}
+use Rattle.std.specs.Prelude.{◌≡◌, ℕ, ◌+◌, ◌-◌, ◌||◌, not, Bool, true, false, List, [], ◌∷◌, ◌++◌, Option, Some, None, if◌then◌else◌}
 use Rattle.std.specs.List.{flat_map}
 use Rattle.std.specs.FinSet as set
 use Rattle.gtid_set.specs.Sets.{Gtids}
 use Rattle.gtid_text.specs.Canonical.{gtid_text}
-use Rattle.journal_words.specs.Gtids.{set_of_word}
+use Rattle.gtid_text.specs.declared.Gtid.{Gtid}
+use Rattle.journal_words.specs.Gtids.{gtid_of_word, set_of_word}
 use Rattle.journal.specs.declared.Entry.{Entry}
 use Rattle.row_images.specs.declared.value.Value.{Value}
 use Rattle.rows.specs.declared.change.Change.{Change}
@@ -20,8 +21,11 @@ use Rattle.binlog_text.specs.declared.lines.Operation.{Operation}
 use Rattle.binlog_text.specs.declared.lines.Operation.TheVariants as operations
 use Rattle.binlog_text.specs.Lines.{Content, OfMark, OfHead, OfTable, OfColumn, OfGtid, OfSources, OfRow, OfValue}
 use Rattle.binlog_entries.specs.Tables.{Table, with_mapping, type_at}
+use Rattle.binlog_entries.specs.Files.{next_file, has_come, come_behind}
 use Rattle.binlog_entries.specs.Varied.{varied_behind}
 use Rattle.binlog_entries.specs.declared.varied.Varied.{Varied}
+use Rattle.binlog_entries.specs.declared.draft.File.{File}
+use Rattle.binlog_entries.specs.declared.draft.File.TheVariants as files
 
 -- what a line means for transactions: a GTID, a row of a table, the images of a row with the values of their columns, and the end
 pub data Meaning : Type 0 where
@@ -55,6 +59,7 @@ mark_means marks.Where = Before ∷ []
 mark_means marks.Set = After ∷ []
 mark_means marks.Commit = Commits ∷ []
 mark_means marks.Committed = Commits ∷ []
+mark_means marks.Flush = Commits ∷ []
 mark_means marks.Place = []
 mark_means marks.Begin = []
 mark_means marks.Ended = []
@@ -65,6 +70,7 @@ mark_means marks.Closed = []
 mark_means marks.Comment = []
 mark_means marks.Setting = []
 mark_means marks.Frame = []
+mark_means marks.Extra = []
 
 abbrev pub means : Context → Content → List Meaning
 means c (OfMark mark) = mark_means mark
@@ -99,9 +105,11 @@ behind_mark c marks.Closed = c
 behind_mark c marks.Comment = c
 behind_mark c marks.Setting = c
 behind_mark c marks.Frame = c
+behind_mark c marks.Extra = c
+behind_mark c marks.Flush = c
 
 abbrev pub behind_head : Context → Event → Context
-behind_head c (events.Rows operation) = record { is_over = true; mapping = c.mapping; tables = c.tables; row = c.row }
+behind_head c (events.Rows operation ends) = record { is_over = true; mapping = c.mapping; tables = c.tables; row = c.row }
 behind_head c events.Start = c
 behind_head c events.PreviousGtids = c
 behind_head c events.Gtid = c
@@ -158,6 +166,82 @@ executed_before before (OfTable database table ∷ ls) = executed_before before 
 executed_before before (OfColumn column ∷ ls) = executed_before before ls
 executed_before before (OfRow operation database table ∷ ls) = executed_before before ls
 executed_before before (OfValue n text ∷ ls) = executed_before before ls
+
+-- ---- what a log owes
+
+-- the next line is a row's, but for extra row info
+abbrev pub row_comes : List Content → Bool
+row_comes [] = false
+row_comes (OfMark marks.Extra ∷ ls) = row_comes ls
+row_comes (OfRow operation database table ∷ ls) = true
+row_comes (_ ∷ ls) = false
+
+-- the head of a rows event that ends its statement has a row behind it
+abbrev pub head_has_rows : Event → List Content → Bool
+head_has_rows (events.Rows operation ends) ls = not ends || row_comes ls
+head_has_rows _ ls = true
+
+-- no transaction ends while a statement of rows is open
+abbrev pub may_commit : Bool → Mark → Bool
+may_commit is_open marks.Commit = not is_open
+may_commit is_open marks.Committed = not is_open
+may_commit is_open _ = true
+
+abbrev pub has_rows : Bool → Content → List Content → Bool
+has_rows is_open (OfHead event) ls = head_has_rows event ls
+has_rows is_open (OfMark mark) ls = may_commit is_open mark
+has_rows is_open _ ls = true
+
+-- whether a statement of rows is open behind the head of an event: one is behind a rows event that doesn't end it
+abbrev pub open_behind : Bool → Event → Bool
+open_behind is_open (events.Rows operation ends) = not ends
+open_behind is_open _ = is_open
+
+-- the same behind any line
+abbrev pub open_by : Bool → Content → Bool
+open_by is_open (OfHead event) = open_behind is_open event
+open_by is_open _ = is_open
+
+-- Each statement of rows ends before its transaction does, and the event that ends it has a row behind it.
+abbrev pub HaveRows : Bool → List Content → Type 0
+HaveRows is_open [] = Unit {0}
+HaveRows is_open (l ∷ ls) = (has_rows is_open l ls ≡ true) × HaveRows (open_by is_open l) ls
+
+-- the file whose previous set is read, after a line: what comes behind a GTID is of a later one
+abbrev pub file_by : File → Content → File
+file_by file (OfHead events.PreviousGtids) = next_file file
+file_by file (OfGtid gtid) = files.Later
+file_by file _ = file
+
+-- what came, after the set, or the GTID, that a word names
+abbrev pub come_with : File → Gtids → Option Gtids → Gtids
+come_with file come None = come
+come_with file come (Some gtids) = come_behind file come gtids
+
+abbrev pub come_with_gtid : Gtids → Option Gtid → Gtids
+come_with_gtid come None = come
+come_with_gtid come (Some gtid) = set.insert come gtid
+
+-- what came, after a line
+abbrev pub come_by : File → Gtids → Content → Gtids
+come_by file come (OfSources sources more) = come_with file come (set_of_word sources)
+come_by file come (OfGtid gtid) = come_with_gtid come (gtid_of_word gtid)
+come_by file come _ = come
+
+abbrev pub named_has_come : File → Gtids → Option Gtids → Bool
+named_has_come file come None = false
+named_has_come file come (Some gtids) = has_come file come gtids
+
+-- a line of a previous set of a later file lies within what came
+abbrev pub set_has_come : File → Gtids → Content → Bool
+set_has_come file come (OfSources sources more) = named_has_come file come (set_of_word sources)
+set_has_come file come _ = true
+
+-- The previous set of each file but the first lies within what came before it: what came at the start, the previous set of the first file,
+-- and the GTIDs of lines.
+abbrev pub NoGap : File → Gtids → List Content → Type 0
+NoGap file come [] = Unit {0}
+NoGap file come (l ∷ ls) = (set_has_come file come l ≡ true) × NoGap (file_by file l) (come_by file come l) ls
 
 -- ---- of entries
 

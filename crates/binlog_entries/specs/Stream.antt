@@ -10,11 +10,13 @@ use Rattle.txn_journal.specs.Words.{IsOneLine}
 use Rattle.binlog_text.specs.Lines.{Content, IsLine}
 use Rattle.binlog_entries.specs.Machine.{Standing, ◌>>=◌, judge, is_closed, IsLineFault}
 use Rattle.binlog_entries.specs.Machine as machine
-use Rattle.binlog_entries.specs.Meaning.{meaning, nowhere, meaning_of_entries, executed_before, varied_in}
+use Rattle.binlog_entries.specs.Meaning.{meaning, nowhere, meaning_of_entries, executed_before, varied_in, HaveRows, NoGap}
 use Rattle.binlog_entries.specs.declared.varied.Varied.{Varied}
 use Rattle.binlog_entries.specs.declared.fault.ReadFault.{ReadFault}
 use Rattle.binlog_entries.specs.declared.fault.ReadFault.TheVariants as faults
 use Rattle.binlog_entries.specs.declared.fault.EntryRefusal.{EntryRefusal}
+use Rattle.binlog_entries.specs.declared.fault.EntryRefusal.TheVariants as refusals
+use Rattle.binlog_entries.specs.declared.draft.File.TheVariants as files
 
 -- How far the reading has come: so many whole lines, and the bytes of the next; or it has stopped.
 pub data Progress : Type 0 where
@@ -29,9 +31,14 @@ unless_stopped (Some fault) p = Stopped fault
 abbrev pub next_number : ℕ → ℕ
 next_number n = min (n + 1) (2 ^ 64 - 1)
 
+-- the line that a refusal names: that of a rows event without rows the line before the one that shows it, where the event's lines end
+abbrev pub named_line : EntryRefusal → ℕ → ℕ
+named_line refusals.Rows n = n - 1
+named_line _ n = n
+
 abbrev pub progress_after : Result Standing EntryRefusal → ℕ → Progress
 progress_after (Ok s) n = Reading s n []
-progress_after (Err refusal) n = Stopped (faults.Line n refusal)
+progress_after (Err refusal) n = Stopped (faults.Line (named_line refusal n) refusal)
 
 -- a line feed ends a line
 unfoldable pub feed_byte : Progress → ℕ → Progress
@@ -42,9 +49,9 @@ abbrev pub feed_bytes : Progress → List ℕ → Progress
 feed_bytes p [] = p
 feed_bytes p (b ∷ bs) = feed_bytes (feed_byte p b) bs
 
--- before the first byte
-abbrev pub start : Progress
-start = Reading machine.start 0 []
+-- before the first byte, where these GTIDs are in the opening set
+abbrev pub start : Gtids → Progress
+start opening = Reading (machine.start opening) 0 []
 
 abbrev pub answer : Progress → Result (Unit {0}) ReadFault
 answer (Reading s n rest) = Ok tt
@@ -139,8 +146,9 @@ HaveContents (line ∷ lines) (l ∷ ls) = IsLine l line × HaveContents lines l
 HaveContents _ _ = ⊥
 
 -- The text is lines with content, and what they mean is what the entries denote, in order. This was executed before, and these are the
--- columns that the server compares otherwise than their bytes.
-pub record IsLog (text : List ℕ) (previous : Gtids) (entries : List Entry) (varied : List Varied) : Type 0 where
+-- columns that the server compares otherwise than their bytes. No statement lacks its rows, and between two files nothing lacks that is
+-- not in the opening set.
+pub record IsLog (opening : Gtids) (text : List ℕ) (previous : Gtids) (entries : List Entry) (varied : List Varied) : Type 0 where
   pub lines : List (List ℕ)
   pub parts : text ≡ flat_map ended_line lines
   pub whole : AllByRecursion IsOneLine lines
@@ -149,6 +157,8 @@ pub record IsLog (text : List ℕ) (previous : Gtids) (entries : List Entry) (va
   pub means : meaning nowhere contents ≡ meaning_of_entries entries
   pub before : previous ≡ executed_before set.empty contents
   pub varies : varied ≡ varied_in nowhere [] contents
+  pub rows : HaveRows false contents
+  pub gapless : NoGap files.Unread opening contents
 
 -- what lines make, one after another
 abbrev pub judges : Standing → List (List ℕ) → Result Standing EntryRefusal
@@ -161,29 +171,33 @@ numbered n [] = n
 numbered n (line ∷ lines) = numbered (next_number n) lines
 
 -- Lines that are taken, and then one that is refused.
-pub record IsRefused (text : List ℕ) (n : ℕ) (refusal : EntryRefusal) : Type 0 where
+pub record IsRefused (opening : Gtids) (text : List ℕ) (n : ℕ) (refusal : EntryRefusal) : Type 0 where
   pub before : List (List ℕ)
   pub line : List ℕ
   pub rest : List ℕ
   pub parts : text ≡ flat_map ended_line before ++ (line ++ 10 ∷ rest)
   pub whole : AllByRecursion IsOneLine before × IsOneLine line
   pub state : Standing
-  pub taken : judges machine.start before ≡ Ok state
+  pub taken : judges (machine.start opening) before ≡ Ok state
   pub refused : judge state line ≡ Err refusal
-  pub number : n ≡ next_number (numbered 0 before)
+  pub number : n ≡ named_line refusal (next_number (numbered 0 before))
 
 -- Lines that are taken, and then less than a line; or the last file has not ended.
-pub record IsUnfinished (text : List ℕ) (n : ℕ) : Type 0 where
+pub record IsUnfinished (opening : Gtids) (text : List ℕ) (n : ℕ) : Type 0 where
   pub before : List (List ℕ)
   pub rest : List ℕ
   pub parts : text ≡ flat_map ended_line before ++ rest
   pub whole : AllByRecursion IsOneLine before × IsOneLine rest
   pub state : Standing
-  pub taken : judges machine.start before ≡ Ok state
+  pub taken : judges (machine.start opening) before ≡ Ok state
   pub owed : (is_closed state.body ≡ true) × (rest ≡ []) → ⊥
   pub number : n ≡ next_number (numbered 0 before)
 
-abbrev pub Refuses : ReadFault → List ℕ → Type 0
-Refuses (faults.Set fault) text = IsPieceFault start text fault
-Refuses (faults.Line n refusal) text = IsRefused text n refusal
-Refuses (faults.Unfinished n) text = IsUnfinished text n
+-- why a whole text is not taken, though nothing is wrong with it: memory may also be refused for a copy of the opening set
+abbrev pub IsTextFault : Gtids → List ℕ → SetFault → Type 0
+IsTextFault opening text fault = IsPieceFault (start opening) text fault ⊎ (fault ≡ Memory)
+
+abbrev pub Refuses : Gtids → ReadFault → List ℕ → Type 0
+Refuses opening (faults.Set fault) text = IsTextFault opening text fault
+Refuses opening (faults.Line n refusal) text = IsRefused opening text n refusal
+Refuses opening (faults.Unfinished n) text = IsUnfinished opening text n

@@ -2,20 +2,22 @@
 ghost use Rattle.std.specs.Prelude.{◌≡◌, ◌∷◌, ◌++◌, [], true, false, OnOk, IfOk, IfErr};
 ghost use Rattle.std.specs.FinSet as set;
 ghost use Rattle.gtid_set.specs.declared.fault.SetFault.TheVariants.{Memory};
-ghost use Rattle.journal.specs.Writing.{is_writable};
+ghost use Rattle.journal.specs.Writing.{is_number};
 ghost use Rattle.txn_journal.specs.Kept.{IsSeen};
-ghost use Rattle.binlog_entries.specs.Journals.{IsNoJournal, MayFollow, MayNotFollow};
+ghost use Rattle.binlog_entries.specs.Journals.{are_numbered, IsNoJournal, MayFollow, MayNotFollow};
 ghost use Rattle.binlog_entries.specs.declared.as_journal.LogFault.TheVariants as log_faults;
 
 use crate::draft::Log;
+use crate::limits::{Limit, limit_of};
 use gtid_set::{GtidSet, SetFault};
 use gtid_text::Gtid;
 use journal::{Entry, Journal};
 use std::alloc::{AllocError, Global};
+use std::fmt;
 use thiserror::Error;
 
 /// Why a log is no journal.
-#[derive(Clone, Copy, Debug, PartialEq, Eq, Error)]
+#[derive(Drop, Error)]
 pub enum LogFault {
     /// Memory was refused, or a set is full.
     #[error("{0}")]
@@ -25,7 +27,13 @@ pub enum LogFault {
     Twice(Gtid),
     /// The entry of this GTID has more changes, columns or bytes than an entry may have.
     #[error("an entry is too large")]
-    TooLarge(Gtid),
+    TooLarge(Gtid, Limit),
+}
+
+impl fmt::Debug for LogFault {
+    fn fmt<W: fmt::Write>(&self, f: &mut fmt::Formatter<W>) -> fmt::Result {
+        fmt::Display::fmt(self, f)
+    }
 }
 
 impl From<AllocError> for LogFault {
@@ -45,8 +53,14 @@ impl From<SetFault> for LogFault {
 }
 
 /// Puts an entry after those of a journal whose GTIDs were seen.
-fn follow(journal: &mut Journal, seen: &mut GtidSet, entry: &Entry) -> Result<(), LogFault>
-    requires { IsSeen journal.old seen.old }
+fn follow(
+    alloc: Global,
+    journal: &mut Journal,
+    seen: &mut GtidSet,
+    entry: &Entry,
+) -> Result<(), LogFault>
+    requires seen { IsSeen journal.old seen.old }
+    requires number { is_number entry.now.gtid.number ≡ true }
     ensures journal { OnOk result (journal.new ≡ record journal.old { entries = journal.old.entries ++ entry.now ∷ [] }) }
     ensures seen { OnOk result (seen.new ≡ set.insert seen.old entry.now.gtid) }
     ensures follows { OnOk result (MayFollow seen.old entry.now) }
@@ -56,23 +70,32 @@ fn follow(journal: &mut Journal, seen: &mut GtidSet, entry: &Entry) -> Result<()
     if seen.contains(&gtid) {
         return Err(LogFault::Twice(gtid));
     }
-    if !entry.is_writable() {
-        return Err(LogFault::TooLarge(gtid));
+    if let Some(limit) = limit_of(alloc, entry)? {
+        return Err(LogFault::TooLarge(gtid, limit));
+    }
+    match seen.add(gtid) {
+        Ok(()) => {}
+        Err(fault) => return Err(LogFault::Set(fault)),
     }
     let entry = entry.clone()?;
-    seen.add(gtid)?;
     journal.push(entry)?;
     Ok(())
 }
 
 /// Puts entries after those of a journal whose GTIDs were seen.
-fn follow_all(journal: &mut Journal, seen: &mut GtidSet, entries: &[Entry]) -> Result<(), LogFault>
-    requires { IsSeen journal.old seen.old }
+fn follow_all(
+    alloc: Global,
+    journal: &mut Journal,
+    seen: &mut GtidSet,
+    entries: &[Entry],
+) -> Result<(), LogFault>
+    requires seen { IsSeen journal.old seen.old }
+    requires numbers { are_numbered entries.now ≡ true }
     ensures journal { OnOk result (journal.new ≡ record journal.old { entries = journal.old.entries ++ entries.now }) }
     ensures refused { IfErr result (λ fault. IsNoJournal fault seen.old entries.now) }
 {
     for entry in entries {
-        match follow(journal, seen, entry) {
+        match follow(alloc, journal, seen, entry) {
             Ok(()) => {}
             Err(fault) => return Err(fault),
         }
@@ -88,7 +111,7 @@ impl Log {
     {
         let mut seen = self.previous.copy(alloc)?;
         let mut journal = Journal::start(alloc, self.previous.copy(alloc)?);
-        match follow_all(&mut journal, &mut seen, &self.entries) {
+        match follow_all(alloc, &mut journal, &mut seen, &self.entries) {
             Ok(()) => Ok(journal),
             Err(fault) => Err(fault),
         }

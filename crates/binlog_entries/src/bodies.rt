@@ -1,9 +1,9 @@
 //! Which lines are allowed where.
 ghost use Rattle.std.specs.Prelude.{◌≡◌};
 ghost use Rattle.binlog_text.specs.Contents.{content_of};
-ghost use Rattle.binlog_entries.specs.Bodies.{kind_of_mark, kind_of, body_of, may_end, has_comments, takes, behind, next_body};
+ghost use Rattle.binlog_entries.specs.Bodies.{kind_of_mark, kind_of, rows_body, body_of, is_row_due, row_behind, may_end, has_comments, takes, behind, next_body};
 
-use binlog_text::{Event, Line, Mark, Operation};
+use binlog_text::{Event, Line, Mark};
 
 /// What the next line is a part of.
 #[derive(Clone, Copy, Debug, PartialEq, Eq)]
@@ -20,7 +20,9 @@ pub enum Body {
     /// A statement, after its text.
     Statement,
     TableMap,
-    Rows(Operation),
+    Rows,
+    /// A rows event that owes a row.
+    RowsDue,
     Xid,
     Payload,
     /// An event that has no more lines, but for comments.
@@ -49,6 +51,7 @@ pub enum Kind {
     Committed,
     Automatic,
     Closed,
+    Extra,
 }
 
 fn kind_of_mark(mark: Mark) -> Kind
@@ -69,6 +72,8 @@ fn kind_of_mark(mark: Mark) -> Kind
         Mark::Comment => Kind::Comment,
         Mark::Setting => Kind::Setting,
         Mark::Frame => Kind::Frame,
+        Mark::Extra => Kind::Extra,
+        Mark::Flush => Kind::Statement,
     }
 }
 
@@ -88,6 +93,13 @@ pub fn kind_of(line: &Line<'_>) -> Kind
     }
 }
 
+/// The body of a rows event that ends its statement, or doesn't.
+fn rows_body(ends: bool) -> Body
+    ensures { result ≡ rows_body ends }
+{
+    if ends { Body::RowsDue } else { Body::Done }
+}
+
 /// The body of an event.
 fn body_of(event: Event) -> Body
     ensures { result ≡ body_of event }
@@ -97,7 +109,7 @@ fn body_of(event: Event) -> Body
         Event::PreviousGtids => Body::PreviousGtids,
         Event::Gtid => Body::Gtid,
         Event::Query => Body::Query,
-        Event::Rows(operation) => Body::Rows(operation),
+        Event::Rows(_, ends) => rows_body(ends),
         Event::Xid => Body::Xid,
         Event::Payload => Body::Payload,
         Event::Rotate => Body::Done,
@@ -106,19 +118,26 @@ fn body_of(event: Event) -> Body
 }
 
 impl Body {
+    /// Whether a row is owed.
+    pub fn is_row_due(self) -> bool
+        ensures { result ≡ is_row_due self }
+    {
+        matches!(self, Body::RowsDue)
+    }
+
     /// Whether the lines of a body may end here.
     fn may_end(self) -> bool
         ensures { result ≡ may_end self }
     {
         match self {
-            Body::Query | Body::Statement | Body::Xid | Body::Closed => false,
+            Body::Query | Body::Statement | Body::RowsDue | Body::Xid | Body::Closed => false,
             Body::Preamble
             | Body::Between
             | Body::Start
             | Body::PreviousGtids
             | Body::Gtid
             | Body::TableMap
-            | Body::Rows(_)
+            | Body::Rows
             | Body::Payload
             | Body::Done
             | Body::FileEnd => true,
@@ -152,12 +171,23 @@ impl Body {
             Kind::Column => matches!(self, Body::TableMap),
             Kind::Gtid => matches!(self, Body::Gtid),
             Kind::Sources => matches!(self, Body::PreviousGtids),
-            Kind::Row => matches!(self, Body::Rows(_)),
+            Kind::Row => matches!(self, Body::Rows | Body::RowsDue),
+            Kind::Extra => matches!(self, Body::Rows | Body::RowsDue),
             Kind::Statement => matches!(self, Body::Query),
             Kind::Ended => matches!(self, Body::Statement),
             Kind::Committed => matches!(self, Body::Xid),
             Kind::Automatic => self.may_end(),
             Kind::Closed => matches!(self, Body::FileEnd),
+        }
+    }
+
+    /// What the line after a row's is a part of.
+    fn row_behind(self) -> Body
+        ensures { result ≡ row_behind self }
+    {
+        match self {
+            Body::RowsDue => Body::Rows,
+            _ => self,
         }
     }
 
@@ -173,6 +203,7 @@ impl Body {
             Kind::Committed => Body::Done,
             Kind::Automatic => Body::FileEnd,
             Kind::Closed => Body::Closed,
+            Kind::Row => self.row_behind(),
             Kind::Comment
             | Kind::Setting
             | Kind::Frame
@@ -180,7 +211,7 @@ impl Body {
             | Kind::Column
             | Kind::Gtid
             | Kind::Sources
-            | Kind::Row => self,
+            | Kind::Extra => self,
         }
     }
 }

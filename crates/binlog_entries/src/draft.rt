@@ -1,21 +1,23 @@
 //! Entries as far as the lines have come.
-ghost use Rattle.std.specs.Prelude.{◌≡◌, length, IfOk, option_map};
+ghost use Rattle.std.specs.Prelude.{◌≡◌, true, length, IfOk, option_map};
 ghost use Rattle.gtid_set.specs.Laws.{HaveNumbers};
+ghost use Rattle.journal.specs.Writing.{is_number};
+ghost use Rattle.binlog_entries.specs.Journals.{are_numbered};
 ghost use Rattle.binlog_entries.specs.Machine.{Finds};
+ghost use Rattle.binlog_entries.specs.Files.{has_come};
 
 use crate::bodies::{Body, kind_of, next_body};
 use crate::fault::{EntryFault, EntryRefusal};
 use crate::parts::{
-    after_due, before_due, change_of, has_rows_of, is_database, is_whole, may_be_database,
-    parse_value, type_at,
+    after_due, before_due, change_of, is_database, is_whole, may_be_database, parse_value, type_at,
 };
 use crate::tables::{Mapped, find_table, name_of};
-use crate::unread::refusal_of;
+use crate::unread::{refusal_at, refusal_of};
 use crate::varied::{Varied, has_varied};
 use binlog_text::{
     Column, ColumnType, Event, Line, Mark, Operation, compares_bytes, parse_type, read_line,
 };
-use gtid_set::GtidSet;
+use gtid_set::{GtidSet, SetFault};
 use gtid_text::{Gtid, SourceId};
 use journal::Entry;
 use journal_words::{gtid_word, set_word};
@@ -32,6 +34,16 @@ pub enum Stage {
     Named,
     /// It has begun.
     Begun,
+}
+
+/// The file whose previous set is read.
+#[derive(Clone, Copy, Debug, PartialEq, Eq)]
+pub enum File {
+    /// No previous set has come.
+    Unread,
+    First,
+    /// One behind a file whose set or GTIDs have come.
+    Later,
 }
 
 /// How much of a row has come.
@@ -54,6 +66,7 @@ pub struct Log {
     /// The columns whose values the server compares otherwise than their bytes.
     pub varied: Vec<Varied>,
     ghost numbers: { HaveNumbers previous },
+    ghost numbered: { are_numbered entries.items ≡ true },
 }
 
 /// The entries of a binary log, as far as its lines have come.
@@ -61,14 +74,19 @@ pub struct Log {
 pub struct Draft {
     body: Body,
     stage: Stage,
-    /// Of the transaction that is open.
+    /// Of the transaction that is open, or was the last one.
     gtid: Gtid,
     /// No GTID has come.
     is_fresh: bool,
     /// The set that was executed before, by the files.
     previous: GtidSet,
+    file: File,
+    /// The opening set, the previous set of the first file, and the GTIDs that came.
+    come: GtidSet,
     /// Rows of the statement have come: the next table is another statement's.
     is_over: bool,
+    /// Rows events of the statement have come, and none of them has ended it.
+    is_open: bool,
     /// The one database of the log, once it is named.
     database: Option<Vec<u8>>,
     /// The table whose columns come.
@@ -88,30 +106,59 @@ pub struct Draft {
     /// Columns whose values the server compares otherwise than their bytes.
     varied: Vec<Varied>,
     ghost numbers: { HaveNumbers previous },
+    ghost number: { is_number gtid.number ≡ true },
+    ghost numbered: { are_numbered entries.items ≡ true },
+}
+
+impl File {
+    ghost use Rattle.binlog_entries.specs.Files.{next_file};
+
+    /// The file whose previous set comes next.
+    fn next(self) -> File
+        ensures { result ≡ next_file self }
+    {
+        match self {
+            File::Unread => File::First,
+            File::First | File::Later => File::Later,
+        }
+    }
+}
+
+/// Whether a previous set of a later file lies within what came before it.
+fn has_come(file: File, come: &GtidSet, gtids: &GtidSet) -> bool
+    ensures { result ≡ has_come file come.now gtids.now }
+{
+    file != File::Later || gtids.is_subset(come)
 }
 
 impl Draft {
-    ghost use Rattle.std.specs.Prelude.{[], None, Ok, Err, OnOk, if◌then◌else◌};
+    ghost use Rattle.std.specs.Prelude.{[], None, Ok, Err, OnOk, IfErr, true, false, if◌then◌else◌};
+    ghost use Rattle.std.specs.FinSet as set;
+    ghost use Rattle.gtid_set.specs.Full.{IsFaultOf};
+    ghost use Rattle.binlog_entries.specs.Files.{is_later, come_behind};
     ghost use Rattle.binlog_text.specs.Contents.{content_of, column_content};
-    ghost use Rattle.binlog_entries.specs.Machine.{Takes, TakesOr, TakesOrMemory, IsSourcesFault, IsMarkFault, IsContentFault, IsStepFault, IsLineFault, Standing, finish_row, open_row, known_name, begin_row, row_line, where_line, set_line, next_value, value_in, value_line, place_line, map_table, table_line, add_column, note_varied, column_line, commit_line, begin_line, gtid_line, sources_line, head_line, mark_line, take_content, step, judge, start, same_stage, is_closed};
+    ghost use Rattle.binlog_entries.specs.Machine.{Takes, TakesOr, TakesOrMemory, IsGtidFault, IsSourcesFault, IsMarkFault, IsContentFault, IsStepFault, IsLineFault, Standing, finish_row, open_row, known_name, begin_row, row_line, where_line, set_line, next_value, value_in, value_line, place_line, map_table, table_line, add_column, note_varied, column_line, with_entry, commit_line, flush_line, begin_line, gtid_line, previous_behind, sources_line, head_line, mark_line, take_content, step, judge, start, same_stage, is_closed};
     ghost use Rattle.binlog_entries.specs.declared.fault.EntryRefusal.TheVariants as refusals;
     ghost use Rattle.binlog_entries.specs.Drafts.{standing};
 
-    /// Before the first line.
-    #[tactic(auto, using(journal::proofs::EntryLemmas::no_numbers))]
-    pub fn start(alloc: Global) -> Draft
-        ensures { standing result ≡ start }
+    /// Before the first line. What comes before the log is in the opening set.
+    #[tactic(auto, using(journal::proofs::EntryLemmas::no_numbers), unfolding(gtid_set::specs::Sets::greatest))]
+    pub fn start(alloc: Global, opening: GtidSet) -> Draft
+        ensures { standing result ≡ start opening }
     {
         Draft {
             body: Body::Preamble,
             stage: Stage::Idle,
             gtid: Gtid {
                 source: SourceId::from_bits(0),
-                number: 0,
+                number: 1,
             },
             is_fresh: true,
             previous: GtidSet::empty(alloc),
+            file: File::Unread,
+            come: opening,
             is_over: false,
+            is_open: false,
             database: None,
             mapping: None,
             tables: Vec::new(alloc),
@@ -221,22 +268,40 @@ impl Draft {
         Ok(())
     }
 
+    /// The transaction that is open ends, and these are its changes.
+    fn end_entry(&mut self, changes: Changes) -> Result<(), AllocError>
+        ensures { OnOk result (standing self.new ≡ with_entry (standing self.old) changes) }
+    {
+        let entry = Entry {
+            gtid: self.gtid,
+            txn: Transaction { changes },
+        };
+        self.entries.push(entry)?;
+        self.stage = Stage::Idle;
+        Ok(())
+    }
+
     #[tactic(auto, unfolding(crate::specs::Machine::commit_line))]
     fn commit_line(&mut self, alloc: Global) -> Result<(), EntryFault>
         ensures { TakesOrMemory result (commit_line (standing self.old)) (standing self.new) }
     {
-        if self.stage != Stage::Begun {
+        if self.is_open || self.stage != Stage::Begun {
             return Err(EntryFault::Refused(EntryRefusal::Transaction));
         }
         let changes = mem::replace(&mut self.changes, Vec::new(alloc));
-        let entry = Entry {
-            gtid: self.gtid,
-            txn: Transaction {
-                changes: Changes::new(changes)?,
-            },
-        };
-        self.entries.push(entry)?;
-        self.stage = Stage::Idle;
+        self.end_entry(Changes::new(changes)?)?;
+        Ok(())
+    }
+
+    /// A statement that flushes is a transaction without changes.
+    #[tactic(auto, unfolding(crate::specs::Machine::flush_line))]
+    fn flush_line(&mut self, alloc: Global) -> Result<(), EntryFault>
+        ensures { TakesOrMemory result (flush_line (standing self.old)) (standing self.new) }
+    {
+        if self.stage != Stage::Named {
+            return Err(EntryFault::Refused(EntryRefusal::Transaction));
+        }
+        self.end_entry(Changes::new(Vec::new(alloc))?)?;
         Ok(())
     }
 
@@ -253,7 +318,7 @@ impl Draft {
 
     #[tactic(auto, unfolding(crate::specs::Machine::gtid_line))]
     fn gtid_line(&mut self, alloc: Global, word: &[u8]) -> Result<(), EntryFault>
-        ensures { TakesOrMemory result (gtid_line (standing self.old) word.now) (standing self.new) }
+        ensures { TakesOr (IsGtidFault (standing self.old) word.now) result (gtid_line (standing self.old) word.now) (standing self.new) }
     {
         if self.stage != Stage::Idle {
             return Err(EntryFault::Refused(EntryRefusal::Gtid));
@@ -261,9 +326,20 @@ impl Draft {
         let Some(gtid) = gtid_word(alloc, word)? else {
             return Err(EntryFault::Refused(EntryRefusal::Gtid));
         };
+        self.add_come(&gtid)?;
         self.gtid = gtid;
         self.is_fresh = false;
+        self.file = File::Later;
         self.stage = Stage::Named;
+        Ok(())
+    }
+
+    /// What came, with one more GTID.
+    fn add_come(&mut self, gtid: &Gtid) -> Result<(), SetFault>
+        ensures come { OnOk result (standing self.new ≡ record (standing self.old) { come = set.insert self.old.come gtid.now }) }
+        ensures fault { IfErr result (λ fault. IsFaultOf fault (set.insert self.old.come gtid.now)) }
+    {
+        self.come.add(*gtid)?;
         Ok(())
     }
 
@@ -271,13 +347,41 @@ impl Draft {
     fn sources_line(&mut self, alloc: Global, word: &[u8]) -> Result<(), EntryFault>
         ensures { TakesOr (IsSourcesFault (standing self.old) word.now) result (sources_line (standing self.old) word.now) (standing self.new) }
     {
-        if !self.is_fresh {
-            return Ok(());
-        }
         let Some(gtids) = set_word(alloc, word)? else {
             return Err(EntryFault::Refused(EntryRefusal::Gtid));
         };
-        self.previous = self.previous.union(alloc, &gtids)?;
+        if !has_come(self.file, &self.come, &gtids) {
+            return Err(EntryFault::Refused(EntryRefusal::Gap));
+        }
+        self.join_come(alloc, &gtids)?;
+        self.join_previous(alloc, &gtids)?;
+        Ok(())
+    }
+
+    /// What came, with a line of the previous set of the first file.
+    fn join_come(&mut self, alloc: Global, gtids: &GtidSet) -> Result<(), SetFault>
+        ensures come { OnOk result (standing self.new ≡ record (standing self.old) { come = come_behind self.old.file self.old.come gtids.now }) }
+        ensures fault { IfErr result (λ fault. (is_later self.old.file ≡ false) × IsFaultOf fault (set.union self.old.come gtids.now)) }
+        ensures fresh { self.new.is_fresh ≡ self.old.is_fresh }
+        ensures previous { self.new.previous ≡ self.old.previous }
+    {
+        if self.file == File::Later {
+            return Ok(());
+        }
+        self.come = self.come.union(alloc, gtids)?;
+        Ok(())
+    }
+
+    /// The set that was executed before, with a line of a previous set.
+    fn join_previous(&mut self, alloc: Global, gtids: &GtidSet) -> Result<(), SetFault>
+        requires { HaveNumbers gtids.now }
+        ensures previous { OnOk result (standing self.new ≡ record (standing self.old) { previous = previous_behind self.old.is_fresh self.old.previous gtids.now }) }
+        ensures fault { IfErr result (λ fault. (self.old.is_fresh ≡ true) × IsFaultOf fault (set.union self.old.previous gtids.now)) }
+    {
+        if !self.is_fresh {
+            return Ok(());
+        }
+        self.previous = self.previous.union(alloc, gtids)?;
         Ok(())
     }
 
@@ -286,15 +390,19 @@ impl Draft {
         ensures { Takes result (head_line (standing self.old) event) (standing self.new) }
     {
         match event {
-            Event::Rows(_) => {
+            Event::Rows(_, ends) => {
                 if self.stage != Stage::Begun {
                     return Err(EntryFault::Refused(EntryRefusal::Transaction));
                 }
                 self.is_over = true;
+                self.is_open = !ends;
+                Ok(())
+            }
+            Event::PreviousGtids => {
+                self.file = self.file.next();
                 Ok(())
             }
             Event::Start
-            | Event::PreviousGtids
             | Event::Gtid
             | Event::Query
             | Event::Xid
@@ -323,9 +431,6 @@ impl Draft {
     ) -> Result<(), EntryFault>
         ensures { TakesOrMemory result (begin_row (standing self.old) operation database.now table.now) (standing self.new) }
     {
-        if !has_rows_of(self.body, operation) {
-            return Err(EntryFault::Refused(EntryRefusal::Format));
-        }
         if !is_database(database, &self.database) {
             return Err(EntryFault::Refused(EntryRefusal::Table));
         }
@@ -453,9 +558,11 @@ impl Draft {
             Mark::Set => self.set_line(),
             Mark::Begin => self.begin_line(),
             Mark::Commit | Mark::Committed => self.commit_line(alloc),
+            Mark::Flush => self.flush_line(alloc),
             Mark::Savepoint => self.expect_stage(Stage::Begun),
             Mark::Closed => self.expect_stage(Stage::Idle),
-            Mark::Ended | Mark::Empty | Mark::Comment | Mark::Setting | Mark::Frame => Ok(()),
+            Mark::Ended | Mark::Empty | Mark::Comment | Mark::Setting | Mark::Frame | Mark::Extra =>
+                Ok(()),
         }
     }
 
@@ -482,7 +589,7 @@ impl Draft {
         ensures { TakesOr (IsStepFault (standing self.old) (content_of line.now)) result (step (standing self.old) (content_of line.now)) (standing self.new) }
     {
         if !self.body.takes(kind_of(line)) {
-            return Err(EntryFault::Refused(EntryRefusal::Format));
+            return Err(EntryFault::Refused(refusal_at(self.body)));
         }
         self.take_content(alloc, line)?;
         self.body = next_body(self.body, line);

@@ -18,7 +18,7 @@ pub enum EntryRefusal {
     Xa,
     /// A GTID that is none of ours, or in the midst of a transaction; or none at all.
     Gtid,
-    /// A transaction's line outside of one, or a second beginning.
+    /// A transaction's line outside of one, a second beginning, or an end within a statement of rows.
     Transaction,
     /// A table that no line maps, a name that is none of ours, or a second database.
     Table,
@@ -30,10 +30,15 @@ pub enum EntryRefusal {
     Value,
     /// The text of another server's logs.
     Mariadb,
+    /// A rows event that ends its statement, and no row behind its head. (`mysqlbinlog` without `-v` prints none.)
+    Rows,
+    /// A previous set of a later file with GTIDs that are neither in the opening set nor in the log before it.
+    Gap,
 }
 
 impl EntryRefusal {
     ghost use Rattle.binlog_entries.specs.Unread.{word_of};
+    ghost use Rattle.binlog_entries.specs.Stream.{named_line};
 
     /// The word that names it.
     pub fn word(self) -> &'static str
@@ -50,6 +55,18 @@ impl EntryRefusal {
             EntryRefusal::Columns => "columns",
             EntryRefusal::Value => "value",
             EntryRefusal::Mariadb => "mariadb",
+            EntryRefusal::Rows => "rows",
+            EntryRefusal::Gap => "gap",
+        }
+    }
+
+    /// The line that the refusal names, where this one shows it: the one before it, where rows lack.
+    pub fn named_line(self, line: u64) -> u64
+        ensures { result ≡ named_line self line }
+    {
+        match self {
+            EntryRefusal::Rows => line.saturating_sub(1),
+            _ => line,
         }
     }
 }

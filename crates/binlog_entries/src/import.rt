@@ -1,57 +1,96 @@
 //! The text of a log as that of a journal.
-ghost use Rattle.std.specs.Prelude.{IfOk, IfErr};
-ghost use Rattle.binlog_entries.specs.Imports.{Imports, IsNoImport};
+ghost use Rattle.std.specs.Prelude.{IfOk, IfErr, IfSome, IfNone};
+ghost use Rattle.binlog_entries.specs.Imports.{Imports, IsNoImport, AreKeysTaken, IsKeyFault};
 
 use crate::as_journal::LogFault;
 use crate::fault::ReadFault;
-use crate::keys::varied_key;
+use crate::keys::{varied_key, varied_places};
 use crate::reader::read_log;
-use gtid_set::SetFault;
-use rows::Schema;
+use crate::varied::Varied;
+use gtid_set::{GtidSet, SetFault};
+use rows::{Name, Schema, Table};
 use std::alloc::Global;
+use std::fmt;
 use thiserror::Error;
 use txn_journal::encode_v2;
 
 /// Why a log's text is not imported.
-#[derive(Clone, Copy, Debug, PartialEq, Eq, Error)]
+#[derive(Drop, Error)]
 pub enum ImportFault {
     /// Its text is not read.
     #[error("{0}")]
     Text(ReadFault),
-    /// A key of a table of the schema, counted from 0, whose values the server compares otherwise than their bytes.
-    #[error("a key of table {0} is not compared by bytes")]
-    Key(usize),
+    /// A table of the schema, and a column of a key of it, counted from 0, whose values the server compares otherwise than their bytes.
+    #[error("column {1} of a key is not compared by bytes")]
+    Key(Name, usize),
     /// What it describes is no journal.
     #[error("{0}")]
     Log(LogFault),
 }
 
-/// The text, by version 2 of the format, of the journal that the text of a binary log describes; its entries change tables of this schema.
-/// `bytes` takes keys that the server compares otherwise than their bytes.
+impl fmt::Debug for ImportFault {
+    fn fmt<W: fmt::Write>(&self, f: &mut fmt::Formatter<W>) -> fmt::Result {
+        fmt::Display::fmt(self, f)
+    }
+}
+
+/// The journal that the text of a binary log describes.
+#[derive(Drop)]
+pub struct ImportedJournal {
+    /// Its text, by version 2 of the format.
+    pub text: Vec<u8>,
+    /// The places, ascending from 0, of the tables of the schema with a key that the server compares otherwise than by its bytes.
+    pub varied: Vec<usize>,
+}
+
+/// The first table with a key that is not compared by its bytes, by its name, and the key's column, unless such keys are taken.
+fn key_fault(bytes: bool, tables: &[Table], varied: &[Varied]) -> Option<ImportFault>
+    ensures none { IfNone result (AreKeysTaken tables.now bytes varied.now) }
+    ensures some { IfSome result (IsKeyFault tables.now bytes varied.now) }
+{
+    if bytes {
+        return None;
+    }
+    let Some((table, column)) = varied_key(tables, varied) else {
+        return None;
+    };
+    match table.clone() {
+        Ok(table) => Some(ImportFault::Key(table, column)),
+        Err(_) => Some(ImportFault::Text(ReadFault::Set(SetFault::Memory))),
+    }
+}
+
+/// The journal that the text of a binary log describes; its entries change tables of this schema, and what comes before the log is in the
+/// opening set. `bytes` takes keys that the server compares otherwise than their bytes.
 pub fn import_journal(
     alloc: Global,
     schema: &Schema,
+    opening: &GtidSet,
     bytes: bool,
     text: &[u8],
-) -> Result<Vec<u8>, ImportFault>
+) -> Result<ImportedJournal, ImportFault>
     // What the lines of the log's text mean, the journal's entries denote.
-    ensures found { IfOk result (λ written. Imports schema.now bytes text.now written.items) }
+    ensures found { IfOk result (λ i. Imports schema.now opening.now bytes text.now i.text.items i.varied.items) }
     // Which line is the first that is refused, which key is the first that is not compared by bytes, or which entry may not follow those before it.
-    ensures refused { IfErr result (λ fault. IsNoImport schema.now bytes fault text.now) }
+    ensures refused { IfErr result (λ fault. IsNoImport schema.now opening.now bytes fault text.now) }
 {
-    let log = match read_log(alloc, text) {
+    let log = match read_log(alloc, opening, text) {
         Ok(log) => log,
         Err(fault) => return Err(ImportFault::Text(fault)),
     };
-    if let Some(table) = varied_key(bytes, schema.tables(), &log.varied) {
-        return Err(ImportFault::Key(table));
+    if let Some(fault) = key_fault(bytes, schema.tables(), &log.varied) {
+        return Err(fault);
     }
+    let varied = match varied_places(alloc, schema.tables(), &log.varied) {
+        Ok(varied) => varied,
+        Err(_) => return Err(ImportFault::Text(ReadFault::Set(SetFault::Memory))),
+    };
     let journal = match log.journal(alloc) {
         Ok(journal) => journal,
         Err(fault) => return Err(ImportFault::Log(fault)),
     };
     match encode_v2(alloc, schema, &journal) {
-        Ok(written) => Ok(written),
+        Ok(text) => Ok(ImportedJournal { text, varied }),
         Err(_) => Err(ImportFault::Log(LogFault::Set(SetFault::Memory))),
     }
 }

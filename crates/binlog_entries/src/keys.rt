@@ -1,58 +1,71 @@
 //! Keys whose values the server compares otherwise than their bytes.
-ghost use Rattle.std.specs.Prelude.{◌≡◌, None, if◌then◌else◌};
-ghost use Rattle.binlog_entries.specs.Keys.{columns_vary, lists_vary, table_varies, place_varied};
+ghost use Rattle.std.specs.Prelude.{◌≡◌, IfOk, option_map};
+ghost use Rattle.binlog_entries.specs.Keys.{varied_column, varied_in_lists, key_column, varied_key, varied_places};
 
 use crate::varied::{Varied, has_varied};
-use rows::{Columns, Table};
+use rows::{Columns, Name, Table};
+use std::alloc::{AllocError, Global};
 
-fn columns_vary(table: &[u8], columns: &[u32], varied: &[Varied]) -> bool
-    ensures { result ≡ columns_vary table.now columns.now varied.now }
+/// The first of the columns of this table that is among these.
+fn varied_column(table: &[u8], columns: &[u32], varied: &[Varied]) -> Option<usize>
+    ensures { result ≡ varied_column table.now columns.now varied.now }
 {
     for column in columns {
-        if has_varied(table, *column as usize, varied) {
-            return true;
-        }
-    }
-    false
-}
-
-fn lists_vary(table: &[u8], lists: &[Columns], varied: &[Varied]) -> bool
-    ensures { result ≡ lists_vary table.now lists.now varied.now }
-{
-    for columns in lists {
-        if columns_vary(table, columns.as_slice(), varied) {
-            return true;
-        }
-    }
-    false
-}
-
-fn table_varies(table: &Table, varied: &[Varied]) -> bool
-    ensures { result ≡ table_varies table.now varied.now }
-{
-    let name = table.name.as_str().as_bytes();
-    columns_vary(name, table.primary.as_slice(), varied)
-        || lists_vary(name, table.uniques.as_slice(), varied)
-}
-
-/// The place of the first table with a key of which a column is among these.
-fn place_varied(tables: &[Table], varied: &[Varied]) -> Option<usize>
-    ensures { result ≡ place_varied tables.now varied.now }
-{
-    for (i, table) in tables.iter().enumerate() {
-        if table_varies(table, varied) {
-            return Some(i);
+        let place = *column as usize;
+        if has_varied(table, place, varied) {
+            return Some(place);
         }
     }
     None
 }
 
-/// The same, unless keys are taken that are not compared by their bytes.
-pub fn varied_key(bytes: bool, tables: &[Table], varied: &[Varied]) -> Option<usize>
-    ensures { result ≡ (if bytes then None else place_varied tables.now varied.now) }
+fn varied_in_lists(table: &[u8], lists: &[Columns], varied: &[Varied]) -> Option<usize>
+    ensures { result ≡ varied_in_lists table.now lists.now varied.now }
 {
-    if bytes {
-        return None;
+    for columns in lists {
+        if let Some(column) = varied_column(table, columns.as_slice(), varied) {
+            return Some(column);
+        }
     }
-    place_varied(tables, varied)
+    None
+}
+
+/// The first column of a key of the table that is among these: of its primary key, and then of its unique keys.
+fn key_column(table: &Table, varied: &[Varied]) -> Option<usize>
+    ensures { result ≡ key_column table.now varied.now }
+{
+    let name = table.name.as_str().as_bytes();
+    match varied_column(name, table.primary.as_slice(), varied) {
+        Some(column) => Some(column),
+        None => varied_in_lists(name, table.uniques.as_slice(), varied),
+    }
+}
+
+/// The first table with such a column, and the column.
+pub fn varied_key<'a>(tables: &'a [Table], varied: &[Varied]) -> Option<(&'a Name, usize)>
+    ensures { option_map (λ k. (k.0.now, k.1)) result ≡ varied_key tables.now varied.now }
+{
+    for table in tables {
+        if let Some(column) = key_column(table, varied) {
+            return Some((&table.name, column));
+        }
+    }
+    None
+}
+
+/// The places of all tables with such a column, ascending.
+pub fn varied_places(
+    alloc: Global,
+    tables: &[Table],
+    varied: &[Varied],
+) -> Result<Vec<usize>, AllocError>
+    ensures { IfOk result (λ places. places.items ≡ varied_places 0 tables.now varied.now) }
+{
+    let mut places = Vec::new(alloc);
+    for (i, table) in tables.iter().enumerate() {
+        if key_column(table, varied).is_some() {
+            places.push(i)?;
+        }
+    }
+    Ok(places)
 }

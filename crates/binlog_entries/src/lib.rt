@@ -1,17 +1,24 @@
 //! The text of MySQL's binary logs as entries: a state machine over the lines of `binlog_text`.
 //!
-//! `Reader` takes the text in pieces (`start`, `feed`, `finish`), and `read_log` is one `feed` and `finish`. A `Log` is the set that was
-//! executed before, by the first file, and the entries in order. `import_journal` writes it as a journal's text, by version 2 of the
-//! format.
+//! `Reader` takes the text in pieces (`start`, `feed`, `finish`), and `read_log` is one `feed` and `finish`. Each is given the opening set:
+//! what comes before the log. A `Log` is the set that was executed before, by the first file, and the entries in order. `import_journal`
+//! writes it as a journal's text, by version 2 of the format.
 //!
 //! What a contract sees: `takes` defines which kinds of lines are allowed in the body of which event, `take_content` what each adds, and
 //! `IsLog` that what the lines mean is what the entries denote: GTIDs, rows with their operation, table and images, and commits. Nothing is
 //! dropped, doubled or moved (`lines_mean_entries`), and it makes no difference where a text is cut (`cut_anywhere`). A refusal names the
-//! first line that is refused.
+//! first line that is refused, but for rows that lack: it names the line before, which is the head of their event.
+//!
+//! Two faults of a text that looks whole are refused. `HaveRows`: mysqlbinlog prints the rows of a statement behind the head of the rows event
+//! that ends it, whatever tables and operations they are of, and without `-v` it prints none. So that head has a row behind it, and no
+//! transaction ends within a statement. `NoGap`: the previous set of each file but the first lies within the opening set, the previous set
+//! of the first file and the GTIDs that came (else a file was left out). A previous set that comes after a GTID is one of a later file.
 //!
 //! Rows are taken in the bodies of rows events alone, so what a statement's text prints is never taken for rows
-//! (`statements_hold_no_rows`). Statements, DDL, XA and partial row images are refused. A log is of one database. Columns that the server
-//! compares otherwise than by bytes are known from the log, and a key with such a column is refused unless the caller asks for bytes.
+//! (`statements_hold_no_rows`). Statements, DDL, XA and partial row images are refused; a statement that flushes is an entry without
+//! changes. A log is of one database. Columns that the server compares otherwise than by bytes are known from the log. A key with such a
+//! column is refused, by its table and column, unless the caller asks for bytes: then the tables with such keys are listed.
+//! An entry that passes a limit of the journal's format is refused by that limit (`Limit`).
 //!
 //! Not proved: that what mysqlbinlog prints is what the server logged, and what was executed before the first file. Run by hand: 27 MB of
 //! two servers of MySQL 9.7 with 5,735 random transactions gave the rows that the servers have, at 120 MB/s.
@@ -24,6 +31,7 @@ mod fault;
 mod import;
 mod keys;
 mod laws;
+mod limits;
 mod parts;
 mod reader;
 mod tables;
@@ -33,8 +41,9 @@ mod varied;
 pub use as_journal::LogFault;
 pub use draft::{Draft, Log};
 pub use fault::{EntryFault, EntryRefusal, ReadFault};
-pub use import::{ImportFault, import_journal};
+pub use import::{ImportFault, ImportedJournal, import_journal};
 pub use laws::{cut_anywhere, lines_mean_entries, statements_hold_no_rows};
+pub use limits::Limit;
 pub use reader::{Reader, cut_line, read_log};
 pub use varied::Varied;
 

@@ -1,9 +1,8 @@
 //! Parts of rows.
 ghost use Rattle.std.specs.Prelude.{◌≡◌, length, IfOk, option_map};
-ghost use Rattle.binlog_entries.specs.Machine.{Finds, is_whole, change_of, is_database, may_be_database, same_operation, has_rows_of, before_due, after_due, parse_value};
+ghost use Rattle.binlog_entries.specs.Machine.{Finds, is_whole, change_of, is_database, may_be_database, before_due, after_due, parse_value};
 ghost use Rattle.binlog_entries.specs.Tables.{type_at};
 
-use crate::bodies::Body;
 use crate::draft::Part;
 use crate::fault::{EntryFault, EntryRefusal};
 use crate::tables::{Mapped, find_table};
@@ -72,25 +71,6 @@ pub fn may_be_database(name: &[u8], database: &Option<Vec<u8>>) -> bool
     match database {
         Some(database) => database.as_slice() == name,
         None => true,
-    }
-}
-
-pub fn same_operation(operation: Operation, wanted: Operation) -> bool
-    ensures { result ≡ same_operation operation wanted }
-{
-    match operation {
-        Operation::Insert => matches!(wanted, Operation::Insert),
-        Operation::Update => matches!(wanted, Operation::Update),
-        Operation::Delete => matches!(wanted, Operation::Delete),
-    }
-}
-
-pub fn has_rows_of(body: Body, wanted: Operation) -> bool
-    ensures { result ≡ has_rows_of body wanted }
-{
-    match body {
-        Body::Rows(operation) => same_operation(operation, wanted),
-        _ => false,
     }
 }
 

@@ -1,13 +1,14 @@
 //! A log's text that comes in pieces, cut anywhere.
 ghost use Rattle.std.specs.Prelude.{◌≡◌, ◌<◌, ◌++◌, length, ◌∷◌, [], None, OnOk, IfOk, IfErr, IfSome, IfNone};
 ghost use Rattle.txn_journal.specs.Words.{IsOneLine, BeginsWithLine};
-ghost use Rattle.binlog_entries.specs.Stream.{Seen, answer, feed_bytes, start, IsPieceFault, IsEndFault, IsJoinedFault, IsAfter, TakesPiece, Ends, end_of, closing, IsLog, Refuses};
+ghost use Rattle.binlog_entries.specs.Stream.{Seen, answer, feed_bytes, start, IsPieceFault, IsEndFault, IsJoinedFault, IsAfter, TakesPiece, Ends, end_of, closing, IsLog, IsTextFault, Refuses};
 ghost use Rattle.binlog_entries.specs.Machine.{TakesOr, judge};
 ghost use Rattle.binlog_entries.specs.Drafts.{standing};
 ghost use Rattle.binlog_entries.specs.Readers.{progress, log_seen};
 
 use crate::draft::{Draft, Log};
 use crate::fault::{EntryFault, ReadFault};
+use gtid_set::GtidSet;
 use memchr::memchr;
 use std::alloc::Global;
 
@@ -41,12 +42,12 @@ impl Reader {
     ghost use Rattle.gtid_set.specs.declared.fault.SetFault.TheVariants.{Memory};
     ghost use Rattle.binlog_entries.specs.declared.fault.ReadFault.TheVariants.{Set};
 
-    /// Before the first byte.
-    pub fn start(alloc: Global) -> Reader
-        ensures { progress result ≡ start }
+    /// Before the first byte. What comes before the log is in the opening set.
+    pub fn start(alloc: Global, opening: GtidSet) -> Reader
+        ensures { progress result ≡ start opening }
     {
         Reader {
-            draft: Draft::start(alloc),
+            draft: Draft::start(alloc, opening),
             lines: 0,
             rest: Vec::new(alloc),
             stopped: None,
@@ -120,7 +121,7 @@ impl Reader {
             Ok(()) => Ok(()),
             Err(EntryFault::Set(fault)) => Err(ReadFault::Set(fault)),
             Err(EntryFault::Refused(refusal)) => Err(ReadFault::Line {
-                line: self.lines,
+                line: refusal.named_line(self.lines),
                 refusal,
             }),
         }
@@ -165,24 +166,27 @@ impl Reader {
     }
 }
 
-fn read(alloc: Global, text: &[u8]) -> Result<Log, ReadFault>
-    ensures { Ends (IsPieceFault start text.now) (Seen log_seen result) (closing (feed_bytes start text.now)) }
+fn read(alloc: Global, opening: GtidSet, text: &[u8]) -> Result<Log, ReadFault>
+    ensures { Ends (IsPieceFault (start opening) text.now) (Seen log_seen result) (closing (feed_bytes (start opening) text.now)) }
 {
-    let mut reader = Reader::start(alloc);
+    let mut reader = Reader::start(alloc, opening);
     match reader.feed(alloc, text) {
         Ok(()) => reader.finish(),
         Err(fault) => Err(fault),
     }
 }
 
-/// What the text of a binary log describes, the text of its files one after another.
-pub fn read_log(alloc: Global, text: &[u8]) -> Result<Log, ReadFault>
-    // What the lines of the text mean, the entries denote.
-    ensures found { IfOk result (λ log. IsLog text.now log.previous log.entries.items log.varied.items) }
+/// What the text of a binary log describes, the text of its files one after another. What comes before the log is in the opening set.
+pub fn read_log(alloc: Global, opening: &GtidSet, text: &[u8]) -> Result<Log, ReadFault>
+    // What the lines of the text mean, the entries denote; no rows event lacks its rows, and between two files nothing lacks.
+    ensures found { IfOk result (λ log. IsLog opening.now text.now log.previous log.entries.items log.varied.items) }
     // A refusal names the first line that is refused, and what is wrong with it.
-    ensures refused { IfErr result (λ fault. Refuses fault text.now) }
+    ensures refused { IfErr result (λ fault. Refuses opening.now fault text.now) }
     // The same, by the fold over the bytes.
-    ensures exact { Ends (IsPieceFault start text.now) (Seen log_seen result) (closing (feed_bytes start text.now)) }
+    ensures exact { Ends (IsTextFault opening.now text.now) (Seen log_seen result) (closing (feed_bytes (start opening.now) text.now)) }
 {
-    read(alloc, text)
+    match opening.copy(alloc) {
+        Ok(opening) => read(alloc, opening, text),
+        Err(fault) => Err(ReadFault::Set(fault)),
+    }
 }

@@ -5,12 +5,19 @@ use Rattle.journal.specs.declared.Entry.{Entry}
 use Rattle.std.specs.FinSet as set
 use Rattle.gtid_set.specs.Sets.{Gtids}
 use Rattle.binlog_entries.specs.Journals.{MayFollow, AllFollow, seen_behind}
+use Rattle.journal.specs.Writing.{is_number}
+use Rattle.binlog_entries.proofs.LimitLaws.{numbered_at}
 use Rattle.binlog_entries.proofs.JournalSteps.{took_more, seen_behind-push, follow_more, unfit_at}
 use Rattle.binlog_entries.proofs.as_journal.follow_all.Goals as goal
 
 pub returns-in-Err-clause-refused : goal.returns-in-Err-clause-refused
 returns-in-Err-clause-refused c =
     unfit_at c.in-Err.fault c.args.seen.now c.loop-entry.seen c.args.entries.now c.loop-entry.entry-index c.entry-item.result c.loop-entry-test.true c.entry-item.is c.loop-entry.invariant.known c.loop-entry.invariant.follow c.in-Err.ensures.refused
+
+pub follow-requires-clause-number : goal.follow-requires-clause-number
+follow-requires-clause-number c =
+    ap (λ (e : Entry). is_number e.gtid.number) c.entry-item.is
+    ∙ numbered_at c.args.entries.now c.loop-entry.entry-index c.entry-item.result c.loop-entry-test.true c.requires.numbers
 
 pub loop-entry-preserved : goal.loop-entry-preserved
 loop-entry-preserved c =

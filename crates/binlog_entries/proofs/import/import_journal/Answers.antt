@@ -1,50 +1,28 @@
-use Rattle.std.proofs.Common.{◌≡◌, ℕ, Bool, true, false, cond, Option, Some, None, refl, sym, ◌∙◌, subst}
-use Rattle.binlog_entries.specs.Keys.{place_varied}
+use Rattle.std.proofs.Common.{◌≡◌, ℕ, Bool, List, sym, subst, refl, inr, ◌∙◌}
+use Rattle.gtid_set.specs.Sets.{Gtids}
 use Rattle.journal.specs.Journals.{JournalValue}
-use Rattle.binlog_entries.specs.Stream.{IsLog}
+use Rattle.journal.specs.declared.Entry.{Entry}
+use Rattle.rows.specs.declared.schema.Table.{Table}
+use Rattle.binlog_entries.specs.Keys.{varied_key, varied_places}
+use Rattle.binlog_entries.specs.Imports.{AreKeysTaken, IsKeyFault, IsNoImport}
+use Rattle.binlog_entries.specs.Stream.{IsLog, Refuses}
+use Rattle.binlog_entries.specs.declared.fault.ReadFault.{ReadFault}
+use Rattle.binlog_entries.specs.declared.import.ImportFault.{ImportFault}
+use Rattle.binlog_entries.specs.declared.import.ImportFault.TheVariants as faults
+use Rattle.binlog_entries.specs.declared.varied.Varied.{Varied}
 use Rattle.binlog_entries.proofs.import.import_journal.Goals as goal
 
-key_free : (b : Bool) (r p : Option ℕ) → r ≡ cond b None p → r ≡ None → b ≡ false → p ≡ None
-key_free true r p e f g = absurd cc
-key_free false r p e f g = sym e ∙ f
+taken : (tables same_tables : List Table) (bytes : Bool) (varied same_varied : List Varied) → same_tables ≡ tables → same_varied ≡ varied → AreKeysTaken same_tables bytes same_varied → AreKeysTaken tables bytes varied
+taken tables same_tables bytes varied same_varied ts vs keys e = (λ i. varied_key (sym ts i) (sym vs i)) ∙ keys e
 
 pub returns-in-Ok-encode_v2-clause-found : goal.returns-in-Ok-encode_v2-clause-found
 returns-in-Ok-encode_v2-clause-found c = record {
   journal = c.in-Ok-journal.journal;
   varied = c.in-Ok.log.varied.items;
-  log = subst (λ (j : JournalValue). IsLog c.args.text.now j.previous j.entries c.in-Ok.log.varied.items) (sym c.in-Ok-journal.ensures.found) c.in-Ok.ensures.found;
-  keys = λ e. (λ i. place_varied (sym c.tables.ensures.value i) (sym c.deref.ensures.value i)) ∙ key_free c.args.bytes c.varied_key.result (place_varied c.tables.result.now c.deref.result.now) c.varied_key.ensures c.in_default.is e;
+  log = subst (λ (j : JournalValue). IsLog c.args.opening.now c.args.text.now j.previous j.entries c.in-Ok.log.varied.items) (sym c.in-Ok-journal.ensures.found) c.in-Ok.ensures.found;
+  keys = taken c.args.schema.now c.tables.result.now c.args.bytes c.in-Ok.log.varied.items c.deref.result.now c.tables.ensures.value c.deref.ensures.value c.in_default.ensures.none;
+  varies = c.in-Ok-varied_places.ensures ∙ (λ i. varied_places 0 (c.tables-2.ensures.value i) (c.deref-2.ensures.value i));
   spells = c.in-Ok-encode_v2.ensures.spelled;
-}
-
-key_found : (b : Bool) (r p : Option ℕ) (k : ℕ) → r ≡ cond b None p → r ≡ Some k → p ≡ Some k
-key_found true r p k e f = absurd (let bad : None ≡ Some k = sym e ∙ f in cc)
-key_found false r p k e f = sym e ∙ f
-
-key_asked : (b : Bool) (r p : Option ℕ) (k : ℕ) → r ≡ cond b None p → r ≡ Some k → b ≡ false
-key_asked true r p k e f = absurd (let bad : None ≡ Some k = sym e ∙ f in cc)
-key_asked false r p k e f = refl
-
-pub returns-in-Some-clause-refused : goal.returns-in-Some-clause-refused
-returns-in-Some-clause-refused c = (
-  key_asked c.args.bytes c.varied_key.result (place_varied c.tables.result.now c.deref.result.now) c.in-Some.table c.varied_key.ensures c.in-Some.is,
-  record {
-    previous = c.in-Ok.log.previous;
-    entries = c.in-Ok.log.entries.items;
-    varied = c.in-Ok.log.varied.items;
-    log = c.in-Ok.ensures.found;
-    key = (λ i. place_varied (sym c.tables.ensures.value i) (sym c.deref.ensures.value i)) ∙ key_found c.args.bytes c.varied_key.result (place_varied c.tables.result.now c.deref.result.now) c.in-Some.table c.varied_key.ensures c.in-Some.is;
-  },
-)
-
-pub returns-clause-refused : goal.returns-clause-refused
-returns-clause-refused c = record {
-  previous = c.in-Ok.log.previous;
-  entries = c.in-Ok.log.entries.items;
-  varied = c.in-Ok.log.varied.items;
-  log = c.in-Ok.ensures.found;
-  keys = λ e. (λ i. place_varied (sym c.tables.ensures.value i) (sym c.deref.ensures.value i)) ∙ key_free c.args.bytes c.varied_key.result (place_varied c.tables.result.now c.deref.result.now) c.varied_key.ensures c.in_default.is e;
-  unfit = tt;
 }
 
 pub returns-in-Err-journal-clause-refused : goal.returns-in-Err-journal-clause-refused
@@ -53,6 +31,27 @@ returns-in-Err-journal-clause-refused c = record {
   entries = c.in-Ok.log.entries.items;
   varied = c.in-Ok.log.varied.items;
   log = c.in-Ok.ensures.found;
-  keys = λ e. (λ i. place_varied (sym c.tables.ensures.value i) (sym c.deref.ensures.value i)) ∙ key_free c.args.bytes c.varied_key.result (place_varied c.tables.result.now c.deref.result.now) c.varied_key.ensures c.in_default.is e;
+  keys = taken c.args.schema.now c.tables.result.now c.args.bytes c.in-Ok.log.varied.items c.deref.result.now c.tables.ensures.value c.deref.ensures.value c.in_default.ensures.none;
   unfit = c.in-Err-journal.ensures.refused;
 }
+
+pub returns-clause-refused : goal.returns-clause-refused
+returns-clause-refused c = record {
+  previous = c.in-Ok.log.previous;
+  entries = c.in-Ok.log.entries.items;
+  varied = c.in-Ok.log.varied.items;
+  log = c.in-Ok.ensures.found;
+  keys = taken c.args.schema.now c.tables.result.now c.args.bytes c.in-Ok.log.varied.items c.deref.result.now c.tables.ensures.value c.deref.ensures.value c.in_default.ensures.none;
+  unfit = tt;
+}
+
+key_refused : (tables same_tables : List Table) (opening : Gtids) (bytes : Bool) (fault : ImportFault) (text : List ℕ) (previous : Gtids) (entries : List Entry) (varied same_varied : List Varied) → same_tables ≡ tables → same_varied ≡ varied → IsLog opening text previous entries varied → IsKeyFault same_tables bytes same_varied fault → IsNoImport tables opening bytes fault text
+key_refused tables same_tables opening bytes (faults.Key table column) text previous entries varied same_varied ts vs log h =
+    (h.0, record { previous = previous; entries = entries; varied = varied; log = log; key = (λ i. varied_key (sym ts i) (sym vs i)) ∙ h.1 })
+key_refused tables same_tables opening bytes (faults.Text fault) text previous entries varied same_varied ts vs log h = subst (λ (f : ReadFault). Refuses opening f text) (sym h) (inr refl)
+key_refused tables same_tables opening bytes (faults.Log fault) text previous entries varied same_varied ts vs log h = absurd h
+
+pub returns-in-Some-clause-refused : goal.returns-in-Some-clause-refused
+returns-in-Some-clause-refused c =
+    key_refused c.args.schema.now c.tables.result.now c.args.opening.now c.args.bytes c.in-Some.fault c.args.text.now c.in-Ok.log.previous c.in-Ok.log.entries.items c.in-Ok.log.varied.items c.deref.result.now
+    c.tables.ensures.value c.deref.ensures.value c.in-Ok.ensures.found c.in-Some.ensures.some

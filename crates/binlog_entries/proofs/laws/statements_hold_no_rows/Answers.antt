@@ -1,5 +1,4 @@
 use Rattle.std.proofs.Common.{◌≡◌, true, refl, inl, inr, ◌⊎◌}
-use Rattle.binlog_text.specs.declared.lines.Operation.{Operation}
 use Rattle.binlog_entries.specs.Bodies.{takes}
 use Rattle.binlog_entries.specs.declared.bodies.Body.{Body}
 use Rattle.binlog_entries.specs.declared.bodies.Body.TheVariants as bodies
@@ -7,8 +6,9 @@ use Rattle.binlog_entries.specs.declared.bodies.Kind.{Kind}
 use Rattle.binlog_entries.specs.declared.bodies.Kind.TheVariants as kinds
 use Rattle.binlog_entries.proofs.laws.statements_hold_no_rows.Goals as goal
 
-rows : (body : Body) → takes body kinds.Row ≡ true → (operation : Operation) × (body ≡ bodies.Rows operation)
-rows (bodies.Rows operation) e = (operation, refl)
+rows : (body : Body) → takes body kinds.Row ≡ true → (body ≡ bodies.Rows) ⊎ (body ≡ bodies.RowsDue)
+rows bodies.Rows e = inl refl
+rows bodies.RowsDue e = inr refl
 rows _ e = absurd cc
 
 statements : (kind : Kind) → takes bodies.Query kind ≡ true → (kind ≡ kinds.Setting) ⊎ (kind ≡ kinds.Statement)

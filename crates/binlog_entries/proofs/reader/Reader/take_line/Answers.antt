@@ -1,4 +1,6 @@
-use Rattle.std.proofs.Common.{◌∙◌}
+use Rattle.std.proofs.Common.{ℕ, sym, ap, ◌∙◌}
+use Rattle.binlog_entries.specs.Stream.{Stopped}
+use Rattle.binlog_entries.specs.declared.fault.ReadFault.TheVariants as faults
 use Rattle.binlog_entries.specs.Drafts.{standing}
 use Rattle.binlog_entries.proofs.Pieces.{line_ok, line_refused, line_fault}
 use Rattle.binlog_entries.proofs.reader.Reader.take_line.Goals as goal
@@ -12,6 +14,7 @@ pub returns-in-Err-Refused-clause-next : goal.returns-in-Err-Refused-clause-next
 returns-in-Err-Refused-clause-next c =
     line_refused c.args.self.now.stopped (standing c.args.self.now.draft) c.args.self.now.lines c.make.new.self.lines c.args.self.now.rest.items c.args.bytes.now c.in-Err-Refused.refusal
     c.requires.goes c.requires.whole (rw c.in-Err-Refused.field-0-is at c.in-Err-Refused.ensures.made) (c.make.ensures.lines ∙ c.saturating_add-self.ensures)
+    ∙ ap (λ (n : ℕ). Stopped (faults.Line n c.in-Err-Refused.refusal)) (sym c.named_line.ensures)
 
 pub returns-in-Err-Set-clause-next : goal.returns-in-Err-Set-clause-next
 returns-in-Err-Set-clause-next c =
