@@ -1,101 +1,155 @@
 -- Channels that come, one after another.
-use Rattle.std.proofs.Common.{◌≡◌, ◌≢◌, ℕ, Bool, true, List, [], ◌∷◌, ◌++◌, codes, refl, sym, ap, ◌∙◌, subst, append_assoc, append-nil, inl, inr}
+use Rattle.std.proofs.Common.{◌≡◌, ◌≢◌, ℕ, true, List, [], ◌∷◌, ◌++◌, Option, Some, None, codes, refl, sym, ap, ◌∙◌, subst, append_assoc, append-nil, inl, inr, slice_get, ◌≤◌, length, arith}
 use Rattle.std.specs.List.{flat_map}
-use Rattle.rows.specs.declared.schema.Table.{Table}
+use Rattle.gtid_set.specs.Sets.{Gtids}
+use Rattle.gtid_set.specs.declared.fault.SetFault.{SetFault}
+use Rattle.gtid_set.specs.declared.fault.SetFault.TheVariants.{Memory, PoolFull, SourcesFull}
+use Rattle.txn_journal.specs.BundleReaders.{bundle_reading}
 use Rattle.txn_journal.specs.BundleStates.{BundleValue, BundleStanding}
-use Rattle.txn_journal.specs.BundleText.{WritesBundle}
+use Rattle.txn_journal.specs.BundleText.{preserve_text, WritesBundle}
 use Rattle.txn_journal.specs.Stream.{Progress, next_number}
 use Rattle.txn_journal.specs.Words.{BeginsWithLine}
 use Rattle.txn_journal.specs.declared.fault.JournalFault.{JournalFault}
 use Rattle.txn_journal.specs.declared.fault.JournalFault.TheVariants as faults
 use Rattle.binlog_entries.proofs.TransactionLaws.{flat_map_more}
-use Rattle.binlog_bundle.specs.Lines.{with_line_feed, is_channel, lines_in, HasNoOwn, Nothing, IsCut}
-use Rattle.binlog_bundle.specs.Bundles.{done_line, ImportedLog, log_text, journal_text, HasTables, IsImported, Corresponds, ImportsBundle, BeginsLast, Nowhere, Last}
-use Rattle.binlog_bundle.specs.Refused.{fault_at_line, channel_fault_at, IsFed, StopsAt, IsRefused, IsOfLine, end_for, IsNoHead, HasTaken, IsLast, IsNoNext, HasChannel, CantFollow, HasJournalFault, IsNoOwn, IsNoneOf, IsNoBundle}
+use Rattle.binlog_bundle.specs.Lines.{with_line_feed, is_channel, lines_in, IsCut}
+use Rattle.binlog_bundle.specs.Notes.{IsNoteFault}
+use Rattle.binlog_bundle.specs.Executed.{IsCutLine, SaysExecuted, HadExecuted, IsNoSet, AreWithin, HasLack, HasFullLack, IsFullAt}
+use Rattle.binlog_bundle.specs.Bundles.{done_line, ImportedLog, log_text, journal_text, IsStart, IsImported, Corresponds, said, DescribesBundle, ImportsBundle, BeginsLast, Nowhere, Last}
+use Rattle.binlog_bundle.specs.Refused.{fault_at_line, fault_in_head, channel_fault_at, IsFed, StopsAt, IsTaken, IsRefused, IsOfLine, end_for, IsNoHead, HasTaken, IsLast, IsNoNext, HasChannel, HasNext, HasWord, HasLog, HasMore, CantFollow, HasJournalFault, IsFull, InHead, InLine, InWord, InNote, InLack, IsNoOwn, IsNoneOf, IsNoBundle}
 use Rattle.binlog_bundle.specs.Tables.{HasNoOther}
-use Rattle.binlog_bundle.specs.Channels.{HasCome, FeedsChannel, IsJournalFault, CantJoin, CantFeedChannel}
+use Rattle.binlog_bundle.specs.Channels.{HasHead, HasRead, HasCome, FeedsChannel, IsWordRead, IsWordRefused, IsJournalFault, IsLineTaken, IsSaidTaken, CantTake, NoMemory, Stops, NotSet, FullNote, CantJoin, CantFeedLog, CantFeedChannel, IsDescribed}
 use Rattle.binlog_bundle.specs.declared.fault.ChannelFault.{ChannelFault}
 use Rattle.binlog_bundle.specs.declared.fault.ChannelFault.TheVariants as channels
+use Rattle.binlog_bundle.specs.declared.channels.ImportProgress.{ImportProgress}
+use Rattle.binlog_bundle.specs.declared.grants.Grants.{Grants}
 use Rattle.binlog_bundle.proofs.Cutting.{all_more, done_begins}
+use Rattle.binlog_bundle.proofs.Counting.{as_many_journals}
 use Rattle.binlog_bundle.proofs.Feeding.{is_taken, refused_more}
 
 -- the number of the line with which what is left begins
 abbrev pub IsLineAt : List ℕ → List ℕ → ℕ → Type 0
 IsLineAt text left n = (front : List ℕ) → text ≡ front ++ left → n ≡ next_number (lines_in front)
 
-stands_none : (bytes : Bool) (head : List ℕ) → Corresponds bytes head head head
-stands_none bytes head = record { channels_of_logs = []; imported = tt; text_is = sym (append-nil head); written_is = sym (append-nil head) }
+stands_none : (grants : Grants) (head plain : List ℕ) → Corresponds grants head plain [] head plain
+stands_none grants head plain = record { imported = tt; text_is = sym (append-nil head); written_is = sym (append-nil plain) }
 
-part_more : (f : ImportedLog → List ℕ) (head text : List ℕ) (bs : List ImportedLog) (b : ImportedLog) → text ≡ head ++ flat_map f bs → text ++ f b ≡ head ++ flat_map f (bs ++ b ∷ [])
-part_more f head text bs b e =
-    ap (λ (xs : List ℕ). xs ++ f b) e
-    ∙ append_assoc head (flat_map f bs) (f b)
-    ∙ ap (λ (xs : List ℕ). head ++ xs) (sym (flat_map_more f bs b))
+part_more : (f : ImportedLog → List ℕ) (head text : List ℕ) (cs : List ImportedLog) (c : ImportedLog) → text ≡ head ++ flat_map f cs → text ++ f c ≡ head ++ flat_map f (cs ++ c ∷ [])
+part_more f head text cs c e =
+    ap (λ (xs : List ℕ). xs ++ f c) e
+    ∙ append_assoc head (flat_map f cs) (f c)
+    ∙ ap (λ (xs : List ℕ). head ++ xs) (sym (flat_map_more f cs c))
 
-stands_more : (bytes : Bool) (head text written : List ℕ) (b : ImportedLog) → Corresponds bytes head text written → IsImported bytes head b → Corresponds bytes head (text ++ log_text b) (written ++ journal_text b)
-stands_more bytes head text written b h imported = record {
-  channels_of_logs = h.channels_of_logs ++ b ∷ [];
-  imported = all_more (IsImported bytes head) h.channels_of_logs b h.imported imported;
-  text_is = part_more log_text head text h.channels_of_logs b h.text_is;
-  written_is = part_more journal_text head written h.channels_of_logs b h.written_is;
+stands_more : (grants : Grants) (head plain text written : List ℕ) (cs : List ImportedLog) (c : ImportedLog) → Corresponds grants head plain cs text written → IsImported grants plain c → Corresponds grants head plain (cs ++ c ∷ []) (text ++ log_text c) (written ++ journal_text c)
+stands_more grants head plain text written cs c h imported = record {
+  imported = all_more (IsImported grants plain) cs c h.imported imported;
+  text_is = part_more log_text head text cs c h.text_is;
+  written_is = part_more journal_text plain written cs c h.written_is;
 }
+
+said_of : (cs : List ImportedLog) (c : ImportedLog) → said cs ++ c.executed ∷ [] ≡ said (cs ++ c ∷ [])
+said_of [] c = refl
+said_of (b ∷ cs) c = ap (λ (xs : List (Option Gtids)). b.executed ∷ xs) (said_of cs c)
+
+said_more : (cs : List ImportedLog) (c : ImportedLog) (xs ys : List (Option Gtids)) → xs ≡ said cs → ys ≡ xs ++ c.executed ∷ [] → ys ≡ said (cs ++ c ∷ [])
+said_more cs c xs ys e f = f ∙ ap (λ (zs : List (Option Gtids)). zs ++ c.executed ∷ []) e ∙ said_of cs c
 
 -- ---- what has come
 
-pub come_head : (bytes : Bool) (head text left : List ℕ) (p : Progress BundleStanding) → IsCut text head left → IsFed p head → HasCome bytes head text left p
-come_head bytes head text left p cut fed = record { alone = cut.none; front = head; written = head; corresponds = stands_none bytes head; parts = cut.parts; begins = cut.begins; fed = fed }
+pub come_head : (grants : Grants) (start : BundleValue) (head plain text left : List ℕ) (p : ImportProgress) → HasHead grants text head plain p.notes.items left → IsStart plain start → HasRead p plain → p.executed.items ≡ [] → HasCome grants start text left p
+come_head grants start head plain text left p h has fed none = record {
+  head = head;
+  plain = plain;
+  head_notes = p.notes.items;
+  alone = h.cut.none;
+  plain_head = h.plain_head;
+  has = has;
+  channels = [];
+  front = head;
+  written = plain;
+  corresponds = stands_none grants head plain;
+  parts = h.cut.parts;
+  begins = h.cut.begins;
+  fed = fed;
+  says = none;
+  noted = sym (append-nil p.notes.items);
+}
 
 channel_parts : (line after log behind : List ℕ) → IsCut after log behind → with_line_feed line ++ after ≡ (with_line_feed line ++ log) ++ behind
 channel_parts line after log behind cut = ap (λ (xs : List ℕ). with_line_feed line ++ xs) cut.parts ∙ sym (append_assoc (with_line_feed line) log behind)
 
-pub come_more : (tables : List Table) (bytes : Bool) (head text left line after log behind : List ℕ) (old new : Progress BundleStanding) → is_channel line ≡ true → HasTables head tables → HasCome bytes head text left old → left ≡ with_line_feed line ++ after → IsCut after log behind → FeedsChannel tables bytes log (with_line_feed line) old new → HasCome bytes head text behind new
-come_more tables bytes head text left line after log behind old new channel has come begins cut brings =
-    let b : ImportedLog = record { line = line; log = log; journal = brings.journal } in
+pub come_more : (grants : Grants) (start : BundleValue) (text left line after log behind : List ℕ) (old new : ImportProgress) → is_channel line ≡ true
+    → HasCome grants start text left old → left ≡ with_line_feed line ++ after → IsCut after log behind → FeedsChannel grants start line log old new → HasCome grants start text behind new
+come_more grants start text left line after log behind old new channel come begins cut f =
+    let note = f.note in
+    let c : ImportedLog = record { line = line; own = f.own; executed = f.executed; log = log; journal = f.brings.journal; varied = f.varied; notes = note } in
     record {
+      head = come.head;
+      plain = come.plain;
+      head_notes = come.head_notes;
       alone = come.alone;
-      front = come.front ++ log_text b;
-      written = come.written ++ journal_text b;
-      corresponds = stands_more bytes head come.front come.written b come.corresponds (record { tables = tables; has = has; channel = channel; alone = cut.none; imports = brings.imports });
-      begins = cut.begins;
+      plain_head = come.plain_head;
+      has = come.has;
+      channels = come.channels ++ c ∷ [];
+      front = come.front ++ log_text c;
+      written = come.written ++ journal_text c;
+      corresponds = stands_more grants come.head come.plain come.front come.written come.channels c come.corresponds (record { start = start; has = come.has; channel = channel; says = f.says; alone = cut.none; imports = f.brings.imports; notes_are = f.note_is });
       parts =
           come.parts
           ∙ ap (λ (xs : List ℕ). come.front ++ xs) (begins ∙ channel_parts line after log behind cut)
-          ∙ sym (append_assoc come.front (log_text b) behind);
-      fed = subst (IsFed new) (append_assoc come.written (with_line_feed line) brings.journal) (brings.fed come.written come.fed);
+          ∙ sym (append_assoc come.front (log_text c) behind);
+      begins = cut.begins;
+      fed = subst (HasRead new) (append_assoc come.written (with_line_feed f.own) f.brings.journal) (f.brings.fed (come.written ++ with_line_feed f.own) (f.fed come.written come.fed));
+      says = said_more come.channels c old.executed.items new.executed.items come.says f.said;
+      noted =
+          f.noted
+          ∙ ap (λ (xs : List ℕ). xs ++ note) come.noted
+          ∙ append_assoc come.head_notes (flat_map (λ (c : ImportedLog). c.notes) come.channels) note
+          ∙ ap (λ (xs : List ℕ). come.head_notes ++ xs) (sym (flat_map_more (λ (c : ImportedLog). c.notes) come.channels c));
     }
 
-taken_of : (bytes : Bool) (head text left : List ℕ) (p : Progress BundleStanding) (come : HasCome bytes head text left p) → HasTaken bytes head come.front come.written left text
-taken_of bytes head text left p come = record { alone = come.alone; corresponds = come.corresponds; parts = come.parts; begins = come.begins; taken = is_taken come.written p come.fed }
+taken_of : (grants : Grants) (start : BundleValue) (text left : List ℕ) (p : ImportProgress) (come : HasCome grants start text left p) → HasTaken grants come.head come.plain come.front come.written left text
+taken_of grants start text left p come = record { alone = come.alone; notes = come.head_notes; plain_head = come.plain_head; channels = come.channels; corresponds = come.corresponds; parts = come.parts; begins = come.begins; taken = is_taken come.written (bundle_reading p.reader) come.fed }
 
 -- ---- why no more has come
 
-own_at : (bytes : Bool) (fault : JournalFault) (n : ℕ) (text : List ℕ) → IsNoNext bytes fault n text → IsNoOwn bytes (fault_at_line fault n) text
-own_at bytes (faults.Set fault) n text h = inr (n, h)
-own_at bytes (faults.Line m cause) n text h = inr (m, h)
-own_at bytes (faults.Truncated m) n text h = inr (m, h)
+full_at : (grants : Grants) (fault : SetFault) (text : List ℕ) → IsFull grants fault text → IsNoOwn grants (faults.Set fault) text
+full_at grants Memory text h = tt
+full_at grants PoolFull text h = h
+full_at grants SourcesFull text h = h
 
-head_at : (bytes : Bool) (fault : JournalFault) (text : List ℕ) → IsNoHead fault text → IsNoOwn bytes fault text
-head_at bytes (faults.Set fault) text h = inl h
-head_at bytes (faults.Line n cause) text h = inl h
-head_at bytes (faults.Truncated n) text h = inl h
+own_at : (grants : Grants) (fault : JournalFault) (n : ℕ) (text : List ℕ) → IsNoNext grants fault n text → IsNoOwn grants (fault_at_line fault n) text
+own_at grants (faults.Set fault) n text h = full_at grants fault text (InLine n h)
+own_at grants (faults.Line m cause) n text h = inr (inl (m, h))
+own_at grants (faults.Truncated m) n text h = inr (m, h)
 
-journal_at : (bytes : Bool) (fault : JournalFault) (n : ℕ) (text : List ℕ) → HasJournalFault bytes fault n text → IsNoneOf bytes (fault_at_line fault n) text
-journal_at bytes (faults.Set fault) n text h = (n, h)
-journal_at bytes (faults.Line m cause) n text h = (m, h)
-journal_at bytes (faults.Truncated m) n text h = absurd h.follow.stops
+pub head_at : (grants : Grants) (fault : JournalFault) (text : List ℕ) → IsNoHead grants fault text → IsNoOwn grants fault text
+head_at grants (faults.Set fault) text h = full_at grants fault text (InHead h)
+head_at grants (faults.Line n cause) text h = inl h
+head_at grants (faults.Truncated n) text h = inl h
+
+journal_at : (grants : Grants) (fault : JournalFault) (n : ℕ) (text : List ℕ) → HasJournalFault grants fault n text → IsNoneOf grants (fault_at_line fault n) text
+journal_at grants (faults.Set fault) n text h = (n, h)
+journal_at grants (faults.Line m cause) n text h = (m, h)
+journal_at grants (faults.Truncated m) n text h = absurd h.follow.stops
 
 -- a line of the bundle's own is refused
-line_refused : (bytes : Bool) (head text left line after : List ℕ) (p : Progress BundleStanding) (fault : JournalFault) (n : ℕ) → HasCome bytes head text left p → BeginsWithLine left line after → ((before : List ℕ) → IsFed p before → StopsAt fault (before ++ with_line_feed line)) → IsLineAt text left n → IsNoOwn bytes (fault_at_line fault n) text
-line_refused bytes head text left line after p fault n come begins stops at = own_at bytes fault n text (inl (record {
-  head = head;
+line_refused : (grants : Grants) (start : BundleValue) (text left line after own : List ℕ) (word : Option (List ℕ)) (p : ImportProgress) (fault : JournalFault) (n : ℕ) (come : HasCome grants start text left p)
+    → BeginsWithLine left line after → IsCutLine line own word → StopsAt fault (come.written ++ with_line_feed own) → IsLineAt text left n → IsNoOwn grants (fault_at_line fault n) text
+line_refused grants start text left line after own word p fault n come begins cut stops at = own_at grants fault n text (inl (record {
+  head = come.head;
+  plain = come.plain;
   front = come.front;
   written = come.written;
   left = left;
-  come = taken_of bytes head text left p come;
+  come = taken_of grants start text left p come;
   next = line;
   after = after;
   begins = begins;
-  stops = stops come.written come.fed;
+  own = own;
+  word = word;
+  cut = cut;
+  stops = stops;
   number = at come.front come.parts;
 }))
 
@@ -112,36 +166,47 @@ is_last left own behind (Nowhere e) parts first = inr (front_nil own behind (sym
 is_last left own behind (Last after e) parts first = inl (first (codes "done") after (done_begins left after e)).0
 
 -- what comes after the last line is refused, or that there is none
-pub end_refused : (bytes : Bool) (head text left own behind : List ℕ) (p q : Progress BundleStanding) (fault : JournalFault) (n : ℕ) → BeginsLast left → HasCome bytes head text left p → left ≡ own ++ behind → SplitsFirst left own behind → ((before : List ℕ) → IsFed p before → IsFed q (before ++ own)) → ((before : List ℕ) → IsFed q before → IsRefused fault (before ++ behind)) → IsLineAt text behind n → IsNoOwn bytes (fault_at_line fault n) text
-end_refused bytes head text left own behind p q fault n last come parts first fed stops at =
+pub end_refused : (grants : Grants) (start : BundleValue) (text left own behind : List ℕ) (p : ImportProgress) (q : Progress BundleStanding) (fault : JournalFault) (n : ℕ) → BeginsLast left → HasCome grants start text left p → left ≡ own ++ behind → SplitsFirst left own behind
+    → ((before : List ℕ) → HasRead p before → IsFed q (before ++ own)) → ((before : List ℕ) → IsFed q before → IsRefused fault (before ++ behind)) → IsLineAt text behind n → IsNoOwn grants (fault_at_line fault n) text
+end_refused grants start text left own behind p q fault n last come parts first fed stops at =
     let fed_own = fed come.written come.fed in
-    own_at bytes fault n text (inr (record {
-      head = head;
+    own_at grants fault n text (inr (record {
+      head = come.head;
+      plain = come.plain;
       front = come.front;
       written = come.written;
       last = own;
       behind = behind;
-      come = subst (λ (xs : List ℕ). HasTaken bytes head come.front come.written xs text) parts (taken_of bytes head text left p come);
+      come = subst (λ (xs : List ℕ). HasTaken grants come.head come.plain come.front come.written xs text) parts (taken_of grants start text left p come);
       ends = is_last left own behind last parts first;
       taken = is_taken (come.written ++ own) q fed_own;
       stops = subst (IsRefused fault) (append_assoc come.written own behind) (stops (come.written ++ own) fed_own);
       number = at (come.front ++ own) (come.parts ∙ ap (λ (xs : List ℕ). come.front ++ xs) parts ∙ sym (append_assoc come.front own behind));
     }))
 
+-- the last line is no channel's
+last_alone : (front word : List ℕ) → SaysExecuted (codes "done") front word → ⊥
+last_alone front word says =
+    let bad : 100 ∷ codes "one" ≡ 99 ∷ (codes "hannel " ++ ((says.name ++ preserve_text says.preserve) ++ (codes " executed " ++ word))) = says.parts ∙ ap (λ (xs : List ℕ). xs ++ (codes " executed " ++ word)) says.own_is in
+    cc
+
 -- the last line is refused, or nothing is
-pub last_refused : (bytes : Bool) (head text left own behind : List ℕ) (p : Progress BundleStanding) (fault : JournalFault) (n : ℕ) → BeginsLast left → HasCome bytes head text left p → left ≡ own ++ behind → SplitsFirst left own behind → ((before : List ℕ) → IsFed p before → StopsAt fault (before ++ own)) → IsLineAt text left n → IsNoOwn bytes (fault_at_line fault n) text
-last_refused bytes head text left own behind p fault n (Last after e) come parts first stops at =
+pub last_refused : (grants : Grants) (start : BundleValue) (text left own behind : List ℕ) (p : ImportProgress) (fault : JournalFault) (n : ℕ) → BeginsLast left → HasCome grants start text left p → left ≡ own ++ behind → SplitsFirst left own behind
+    → ((before : List ℕ) → HasRead p before → StopsAt fault (before ++ own)) → IsLineAt text left n → IsNoOwn grants (fault_at_line fault n) text
+last_refused grants start text left own behind p fault n (Last after e) come parts first stops at =
     let begins = done_begins left after e in
-    let P : List ℕ → Type 0 = λ xs. (before : List ℕ) → IsFed p before → StopsAt fault (before ++ xs) in
-    line_refused bytes head text left (codes "done") after p fault n come begins (subst P (first (codes "done") after begins).0 stops) at
-last_refused bytes head text left own behind p fault n (Nowhere e) come parts first stops at =
+    let P : List ℕ → Type 0 = λ xs. (before : List ℕ) → HasRead p before → StopsAt fault (before ++ xs) in
+    line_refused grants start text left (codes "done") after (codes "done") None p fault n come begins (refl, last_alone) (subst P (first (codes "done") after begins).0 stops come.written come.fed) at
+last_refused grants start text left own behind p fault n (Nowhere e) come parts first stops at =
     let none = front_nil own behind (sym e ∙ parts) in
     let nothing : left ≡ behind = parts ∙ ap (λ (xs : List ℕ). xs ++ behind) none.0 in
     let same : (xs : List ℕ) → xs ++ own ≡ xs = λ xs. ap (λ (ys : List ℕ). xs ++ ys) none.0 ∙ append-nil xs in
-    end_refused bytes head text left own behind p p fault n (Nowhere e) come parts first
-    (λ before fed. subst (IsFed p) (sym (same before)) fed)
+    end_refused grants start text left own behind p (bundle_reading p.reader) fault n (Nowhere e) come parts first
+    (λ before fed. subst (HasRead p) (sym (same before)) fed)
     (λ before fed. refused_more fault before behind (subst (StopsAt fault) (same before) (stops before fed)))
     (subst (λ (xs : List ℕ). IsLineAt text xs n) nothing at)
+
+-- ---- a channel that doesn't come
 
 -- the line of a channel that comes next
 next_channel : (left line after log behind : List ℕ) → is_channel line ≡ true → BeginsWithLine left line after → IsCut after log behind → HasChannel left line log behind
@@ -151,121 +216,221 @@ next_channel left line after log behind channel begins cut = record {
   cut = subst (λ (xs : List ℕ). IsCut xs log behind) cut.parts cut;
 }
 
-cant_follow : (tables : List Table) (bytes : Bool) (head text left line log behind : List ℕ) (p : Progress BundleStanding) (fault : JournalFault) (n : ℕ) → HasChannel left line log behind → HasTables head tables → (come : HasCome bytes head text left p)
-    → CantJoin tables bytes log (with_line_feed line) come.written fault → IsLineAt text left n → CantFollow bytes fault n text tables log
-cant_follow tables bytes head text left line log behind p fault n next has come cant at = record {
-  head = head;
-  front = come.front;
-  written = come.written;
-  left = left;
-  come = taken_of bytes head text left p come;
-  channel = line;
-  rest = behind;
-  next = next;
-  taken = cant.taken;
-  has = has;
-  journal = cant.journal;
-  imports = cant.imports;
-  stops = subst (StopsAt fault) (append_assoc come.written (with_line_feed line) cant.journal) cant.stops;
-  number = at come.front come.parts;
-}
+-- all that has come before a channel, its line, and the text behind
+pub record ComesNext (grants : Grants) (start : BundleValue) (text left line after log behind : List ℕ) (p : ImportProgress) (n : ℕ) : Type 0 where
+  pub channel : is_channel line ≡ true
+  pub come : HasCome grants start text left p
+  pub begins : BeginsWithLine left line after
+  pub cut : IsCut after log behind
+  pub at : IsLineAt text left n
 
--- a channel is refused
-pub channel_refused : (tables : List Table) (bytes : Bool) (head text left line after log behind : List ℕ) (p : Progress BundleStanding) (fault : ChannelFault) (n : ℕ) → is_channel line ≡ true → HasTables head tables → HasCome bytes head text left p → BeginsWithLine left line after → IsCut after log behind → ((before : List ℕ) → IsFed p before → CantFeedChannel tables bytes log (with_line_feed line) before fault) → IsLineAt text left n → IsNoBundle bytes (channel_fault_at fault n) text
-channel_refused tables bytes head text left line after log behind p (channels.Own fault) n channel has come begins cut cant at =
-    line_refused bytes head text left line after p fault n come begins cant at
-channel_refused tables bytes head text left line after log behind p (channels.Log fault) n channel has come begins cut cant at =
-    let why = cant come.written come.fed in
-    record {
-      head = head;
-      front = come.front;
-      written = come.written;
-      left = left;
-      come = taken_of bytes head text left p come;
-      channel = line;
-      log = log;
-      rest = behind;
-      next = next_channel left line after log behind channel begins cut;
-      taken = why.0;
-      tables = tables;
-      has = has;
-      none = why.1;
-      number = at come.front come.parts;
-    }
-channel_refused tables bytes head text left line after log behind p (channels.Table of_log) n channel has come begins cut cant at =
-    let why = cant come.written come.fed in
-    record {
-      tables = tables;
-      log = log;
-      fault = why.0;
-      of_line = why.1;
-      follow = cant_follow tables bytes head text left line log behind p why.0 n (next_channel left line after log behind channel begins cut) has come why.2 at;
-      other = why.3;
-    }
-channel_refused tables bytes head text left line after log behind p (channels.Journal fault) n channel has come begins cut cant at =
-    let why = cant come.written come.fed in
-    journal_at bytes fault n text (record {
-      tables = tables;
-      log = log;
-      follow = cant_follow tables bytes head text left line log behind p fault n (next_channel left line after log behind channel begins cut) has come why.0 at;
-      no_other = why.1;
-    })
+module _ {grants : Grants} {start : BundleValue} {text left line after log behind : List ℕ} {p : ImportProgress} {n : ℕ} (h : ComesNext grants start text left line after log behind p n) where
+  has_next : (own : List ℕ) → IsTaken (h.come.written ++ with_line_feed own) → HasNext grants n text h.come.written line own log start
+  has_next own taken = record {
+    head = h.come.head;
+    plain = h.come.plain;
+    front = h.come.front;
+    left = left;
+    come = taken_of grants start text left p h.come;
+    rest = behind;
+    next = next_channel left line after log behind h.channel h.begins h.cut;
+    taken = taken;
+    has = h.come.has;
+    number = h.at h.come.front h.come.parts;
+  }
+
+  has_word : (own : List ℕ) (word : Option (List ℕ)) → IsLineTaken line h.come.written own word → HasWord grants n text word
+  has_word own word t = record { written = h.come.written; channel = line; own = own; log = log; start = start; next = has_next own t.taken; cut = t.cut }
+
+  has_log : (own : List ℕ) (said_here : Option Gtids) → IsSaidTaken grants line h.come.written own said_here → HasLog grants n text log h.come.written line own said_here start
+  has_log own said_here t = record { next = has_next own t.taken; says = t.says }
+
+  not_set : (own word : List ℕ) (fault : JournalFault) → IsLineTaken line h.come.written own (Some word) → IsNoSet word fault → IsNoOwn grants (fault_at_line fault n) text
+  not_set own word (faults.Set fault) t denied = full_at grants fault text (InWord (n, word, has_word own (Some word) t, denied))
+  not_set own word (faults.Line m cause) t denied = inr (inr (denied.0, (word, has_word own (Some word) t, denied.1)))
+  not_set own word (faults.Truncated m) t denied = absurd denied
+
+  set_at : (fault : JournalFault) (full : SetFault) → fault ≡ faults.Set full → IsNoOwn grants (faults.Set full) text → IsNoOwn grants (fault_at_line fault n) text
+  set_at fault full e denied = subst (λ (f : JournalFault). IsNoOwn grants (fault_at_line f n) text) (sym e) denied
+
+  cant_take : (fault : JournalFault) → CantTake grants start line h.come.written fault → IsNoOwn grants (fault_at_line fault n) text
+  cant_take fault (NoMemory e) = set_at fault Memory e tt
+  cant_take fault (Stops own word cut stops) = line_refused grants start text left line after own word p fault n h.come h.begins cut stops h.at
+  cant_take fault (NotSet own word t denied) = not_set own word fault t denied
+  cant_take fault (FullNote own said_here full t denied e) = set_at fault full e (full_at grants full text (InNote (record {
+    line = n;
+    written = h.come.written;
+    channel = line;
+    own = own;
+    log = log;
+    executed = said_here;
+    start = start;
+    has = has_log own (Some said_here) t;
+    full = denied;
+  })))
+
+  cant_follow : (own : List ℕ) (said_here : Option Gtids) (fault : JournalFault) → IsSaidTaken grants line h.come.written own said_here → CantJoin grants start log (h.come.written ++ with_line_feed own) fault → CantFollow grants fault n text start log
+  cant_follow own said_here fault t cant = record {
+    written = h.come.written;
+    channel = line;
+    own = own;
+    executed = said_here;
+    has = has_log own said_here t;
+    journal = cant.journal;
+    varied = cant.varied;
+    imports = cant.imports;
+    stops = subst (StopsAt fault) (append_assoc h.come.written (with_line_feed own) cant.journal) cant.stops;
+  }
+
+  -- a channel is refused
+  pub channel_refused : (fault : ChannelFault) → ((before : List ℕ) → HasRead p before → CantFeedChannel grants start line log before fault) → IsNoBundle grants (channel_fault_at fault n) text
+  channel_refused (channels.Own fault) cant = cant_take fault (cant h.come.written h.come.fed)
+  channel_refused channels.Unknown cant =
+      let why = cant h.come.written h.come.fed in
+      (has_word why.0 None why.1, why.2)
+  channel_refused (channels.Log fault) cant =
+      let why = cant h.come.written h.come.fed in
+      record { written = h.come.written; channel = line; own = why.own; log = log; executed = why.executed; start = start; has = has_log why.own why.executed why.line_taken; none = why.cant }
+  channel_refused (channels.Table of_log) cant =
+      let why = cant h.come.written h.come.fed in
+      record { start = start; log = log; fault = why.cant.0; of_line = why.cant.1; follow = cant_follow why.own why.executed why.cant.0 why.line_taken why.cant.2; other = why.cant.3 }
+  channel_refused (channels.Journal fault) cant =
+      let why = cant h.come.written h.come.fed in
+      journal_at grants fault n text (record { start = start; log = log; follow = cant_follow why.own why.executed fault why.line_taken why.cant.0; no_other = why.cant.1 })
 
 -- ---- the whole
 
-pub end_found : (bytes : Bool) (head text left own behind : List ℕ) (p q : Progress BundleStanding) (b : BundleValue) → BeginsLast left → HasCome bytes head text left p → left ≡ own ++ behind → ((before : List ℕ) → IsFed p before → IsFed q (before ++ own)) → ((before : List ℕ) → IsFed q before → WritesBundle (before ++ behind) b) → ImportsBundle bytes text b
-end_found bytes head text left own behind p q b last come parts fed writes = record {
+pub end_found : (grants : Grants) (start : BundleValue) (text left own behind : List ℕ) (p : ImportProgress) (q : Progress BundleStanding) (b : BundleValue) → BeginsLast left → HasCome grants start text left p → left ≡ own ++ behind
+    → ((before : List ℕ) → HasRead p before → IsFed q (before ++ own)) → ((before : List ℕ) → IsFed q before → WritesBundle (before ++ behind) b) → IsDescribed grants text b p.executed.items p.notes.items
+end_found grants start text left own behind p q b last come parts fed writes = record {
+  channels = come.channels;
+  describes = record {
+    head = come.head;
+    plain = come.plain;
+    head_notes = come.head_notes;
+    alone = come.alone;
+    plain_head = come.plain_head;
+    front = come.front;
+    written = come.written;
+    corresponds = come.corresponds;
+    tail = own ++ behind;
+    ends = subst BeginsLast parts last;
+    parts = come.parts ∙ ap (λ (xs : List ℕ). come.front ++ xs) parts;
+    writes = subst (λ (xs : List ℕ). WritesBundle xs b) (append_assoc come.written own behind) (writes (come.written ++ own) (fed come.written come.fed));
+    notes_are = come.noted;
+  };
+  says = come.says;
+}
+
+as_many : (grants : Grants) (text : List ℕ) (cs : List ImportedLog) (b : BundleValue) (notes : List ℕ) → DescribesBundle grants text cs b notes → length cs ≤ length b.journals
+as_many grants text cs b notes d =
+    as_many_journals grants d.plain cs d.tail b d.corresponds.imported (subst (λ (xs : List ℕ). WritesBundle (xs ++ d.tail) b) d.corresponds.written_is d.writes)
+
+pub within_found : (grants : Grants) (text : List ℕ) (b : BundleValue) (executed : List (Option Gtids)) (notes : List ℕ) → IsDescribed grants text b executed notes → AreWithin b executed → ImportsBundle grants text b notes
+within_found grants text b executed notes d within = record { channels = d.channels; describes = d.describes; as_many = as_many grants text d.channels b notes d.describes; within = subst (AreWithin b) d.says within }
+
+pub lack_refused : (grants : Grants) (text : List ℕ) (b : BundleValue) (executed : List (Option Gtids)) (notes name : List ℕ) (missing : Gtids) → IsDescribed grants text b executed notes → HasLack b executed name missing → HasMore grants name missing text
+lack_refused grants text b executed notes name missing d lack = record { bundle = b; notes = notes; logs = d.channels; describes = d.describes; lack = subst (λ (xs : List (Option Gtids)). HasLack b xs name missing) d.says lack }
+
+too_large : (grants : Grants) (fault : SetFault) (text : List ℕ) (b : BundleValue) (executed : List (Option Gtids)) (notes : List ℕ) → IsDescribed grants text b executed notes → IsFullAt fault b executed → IsFull grants fault text
+too_large grants fault text b executed notes d full = InLack (record { bundle = b; notes = notes; logs = d.channels; describes = d.describes; full = subst (IsFullAt fault b) d.says full })
+
+pub lack_not_made : (grants : Grants) (fault : SetFault) (text : List ℕ) (b : BundleValue) (executed : List (Option Gtids)) (notes : List ℕ) → IsDescribed grants text b executed notes → HasFullLack fault b executed → IsNoOwn grants (faults.Set fault) text
+lack_not_made grants Memory text b executed notes d full = tt
+lack_not_made grants PoolFull text b executed notes d full = too_large grants PoolFull text b executed notes d full
+lack_not_made grants SourcesFull text b executed notes d full = too_large grants SourcesFull text b executed notes d full
+
+-- ---- the head
+
+none_said : (b : BundleValue) → AreWithin b []
+none_said b n executed journal says brings = absurd (let bad : None ≡ Some (Some executed) = sym (none_there n) ∙ says in cc)
+  where
+    none_there : (n : ℕ) → slice_get (let xs : List (Option Gtids) = [] in xs) n ≡ None
+    none_there n = refl
+
+pub head_found : (grants : Grants) (text head plain notes rest : List ℕ) (b : BundleValue) → HasHead grants text head plain notes rest → rest ≡ [] → WritesBundle (plain ++ end_for rest) b → ImportsBundle grants text b notes
+head_found grants text head plain notes rest b h nothing writes = record {
+  channels = [];
+  describes = record {
+    head = head;
+    plain = plain;
+    head_notes = notes;
+    alone = h.cut.none;
+    plain_head = h.plain_head;
+    front = head;
+    written = plain;
+    corresponds = stands_none grants head plain;
+    tail = rest;
+    ends = Nowhere nothing;
+    parts = h.cut.parts;
+    writes = subst (λ (xs : List ℕ). WritesBundle (plain ++ xs) b) (ap end_for nothing ∙ sym nothing) writes;
+    notes_are = sym (append-nil notes);
+  };
+  as_many = omega arith;
+  within = none_said b;
+}
+
+pub head_refused : (grants : Grants) (fault found : JournalFault) (text head plain notes rest : List ℕ) (h : HasHead grants text head plain notes rest) → IsRefused fault (plain ++ end_for rest) → found ≡ fault_in_head h.plain_head.lines fault → IsNoOwn grants found text
+head_refused grants fault found text head plain notes rest h stops is = head_at grants found text (record {
   head = head;
-  alone = come.alone;
-  front = come.front;
-  written = come.written;
-  corresponds = come.corresponds;
-  tail = own ++ behind;
-  ends = subst BeginsLast parts last;
-  parts = come.parts ∙ ap (λ (xs : List ℕ). come.front ++ xs) parts;
-  writes = subst (λ (xs : List ℕ). WritesBundle xs b) (append_assoc come.written own behind) (writes (come.written ++ own) (fed come.written come.fed));
-}
-
-pub head_found : (bytes : Bool) (text : List ℕ) (b : BundleValue) → HasNoOwn text → WritesBundle text b → ImportsBundle bytes text b
-head_found bytes text b alone writes = record {
-  head = text;
-  alone = alone;
-  front = text;
-  written = text;
-  corresponds = stands_none bytes text;
-  tail = [];
-  ends = Nowhere refl;
-  parts = sym (append-nil text);
-  writes = subst (λ (xs : List ℕ). WritesBundle xs b) (sym (append-nil text)) writes;
-}
-
--- the head alone
-pub head_refused : (bytes : Bool) (fault : JournalFault) (text : List ℕ) → HasNoOwn text → IsRefused fault text → IsNoOwn bytes fault text
-head_refused bytes fault text alone stops = head_at bytes fault text (record {
-  head = text;
-  rest = [];
-  cut = record { parts = sym (append-nil text); none = alone; begins = Nothing refl };
-  stops = subst (IsRefused fault) (sym (append-nil text)) stops;
+  rest = rest;
+  cut = h.cut;
+  plain = plain;
+  notes = notes;
+  plain_head = h.plain_head;
+  own = fault;
+  stops = stops;
+  at = is;
 })
 
 end_more : (rest : List ℕ) → rest ≢ [] → end_for rest ≡ done_line
 end_more [] more = absurd (more refl)
 end_more (b ∷ bs) more = refl
 
--- the head, with the end of a bundle after it
-pub start_refused : (bytes : Bool) (fault : JournalFault) (text head rest : List ℕ) → IsCut text head rest → rest ≢ [] → IsRefused fault (head ++ done_line) → IsNoOwn bytes fault text
-start_refused bytes fault text head rest cut more stops = head_at bytes fault text (record {
-  head = head;
-  rest = rest;
-  cut = cut;
-  stops = subst (λ (xs : List ℕ). IsRefused fault (head ++ xs)) (sym (end_more rest more)) stops;
-})
+-- the reader of channels stops in the head
+pub start_refused : (grants : Grants) (fault found : JournalFault) (text head plain notes rest : List ℕ) (h : HasHead grants text head plain notes rest) → StopsAt fault plain → found ≡ fault_in_head h.plain_head.lines fault → IsNoOwn grants found text
+start_refused grants fault found text head plain notes rest h stops is = head_refused grants fault found text head plain notes rest h (refused_more fault plain (end_for rest) stops) is
 
--- ---- a journal
+pub start_of : (plain rest : List ℕ) (start : BundleValue) → rest ≢ [] → WritesBundle (plain ++ end_for rest) start → IsStart plain start
+start_of plain rest start more writes = subst (λ (xs : List ℕ). WritesBundle (plain ++ xs) start) (end_more rest more) writes
 
-pub cant_bring : (tables : List Table) (bytes : Bool) (log line before : List ℕ) (fault : JournalFault) (found : ChannelFault) → CantJoin tables bytes log line before fault → IsJournalFault tables log fault found → CantFeedChannel tables bytes log line before found
-cant_bring tables bytes log line before fault (channels.Own other) cant h = absurd h
-cant_bring tables bytes log line before fault (channels.Log other) cant h = absurd h
-cant_bring tables bytes log line before fault (channels.Table at) cant h = (fault, h.0, cant, h.1)
-cant_bring tables bytes log line before fault (channels.Journal other) cant h =
-    subst (λ (f : JournalFault). CantJoin tables bytes log line before f × (IsOfLine f → HasNoOther tables log)) (sym h.0) (cant, h.1)
+-- ---- a log
+
+pub cant_bring : (grants : Grants) (start : BundleValue) (log before : List ℕ) (fault : JournalFault) (found : ChannelFault) → CantJoin grants start log before fault → IsJournalFault start.start.schema log fault found → CantFeedLog grants start log before found
+cant_bring grants start log before fault (channels.Own other) cant h = absurd h
+cant_bring grants start log before fault channels.Unknown cant h = absurd h
+cant_bring grants start log before fault (channels.Log other) cant h = absurd h
+cant_bring grants start log before fault (channels.Table at) cant h = (fault, h.0, cant, h.1)
+cant_bring grants start log before fault (channels.Journal other) cant h =
+    subst (λ (f : JournalFault). CantJoin grants start log before f × (IsOfLine f → HasNoOther start.start.schema log)) (sym h.0) (cant, h.1)
+
+-- ---- a channel
+
+pub had_executed : (grants : Grants) (line own : List ℕ) (word : Option (List ℕ)) (executed : Option Gtids) → IsCutLine line own word → IsWordRead grants word executed → HadExecuted grants line own executed
+had_executed grants line own (Some word) (Some executed) cut reads = (word, cut, reads)
+had_executed grants line own None None cut reads = (cut, reads)
+had_executed grants line own (Some word) None cut reads = absurd reads
+had_executed grants line own None (Some executed) cut reads = absurd reads
+
+pub word_refused : (grants : Grants) (start : BundleValue) (line log before own : List ℕ) (word : Option (List ℕ)) (fault : ChannelFault) → IsLineTaken line before own word → IsWordRefused grants word fault → CantFeedChannel grants start line log before fault
+word_refused grants start line log before own (Some word) (channels.Own fault) t denied = NotSet own word t denied
+word_refused grants start line log before own None channels.Unknown t denied = (own, t, denied)
+word_refused grants start line log before own (Some word) channels.Unknown t denied = absurd denied
+word_refused grants start line log before own (Some word) (channels.Log fault) t denied = absurd denied
+word_refused grants start line log before own (Some word) (channels.Table at) t denied = absurd denied
+word_refused grants start line log before own (Some word) (channels.Journal fault) t denied = absurd denied
+word_refused grants start line log before own None (channels.Own fault) t denied = absurd denied
+word_refused grants start line log before own None (channels.Log fault) t denied = absurd denied
+word_refused grants start line log before own None (channels.Table at) t denied = absurd denied
+word_refused grants start line log before own None (channels.Journal fault) t denied = absurd denied
+
+pub log_refused : (grants : Grants) (start : BundleValue) (line log before own : List ℕ) (executed : Option Gtids) (fault : ChannelFault) → IsSaidTaken grants line before own executed → CantFeedLog grants start log (before ++ with_line_feed own) fault → CantFeedChannel grants start line log before fault
+log_refused grants start line log before own executed (channels.Own fault) t denied = absurd denied
+log_refused grants start line log before own executed channels.Unknown t denied = absurd denied
+log_refused grants start line log before own executed (channels.Log fault) t denied = record { own = own; executed = executed; line_taken = t; cant = denied }
+log_refused grants start line log before own executed (channels.Table at) t denied = record { own = own; executed = executed; line_taken = t; cant = denied }
+log_refused grants start line log before own executed (channels.Journal fault) t denied = record { own = own; executed = executed; line_taken = t; cant = denied }
+
+pub note_refused : (grants : Grants) (start : BundleValue) (line before own : List ℕ) (executed : Option Gtids) (fault : SetFault) → IsSaidTaken grants line before own executed → IsNoteFault fault start.opened executed → CantTake grants start line before (faults.Set fault)
+note_refused grants start line before own None fault t denied = NoMemory (ap (λ (f : SetFault). faults.Set f) denied)
+note_refused grants start line before own (Some executed) fault t denied = FullNote own executed fault t denied refl

@@ -39,7 +39,7 @@ passed_more P text left line after h begins holds = record {
 abbrev pub SplitsAt : List ℕ → ℕ → List ℕ → List ℕ → Type 0
 SplitsAt text left a b = (front rest : List ℕ) → text ≡ front ++ rest → left ≡ length rest → (a ≡ front) × (b ≡ rest)
 
-passed_no_own : (lines : List (List ℕ)) (a : List ℕ) → AllByRecursion IsOther lines → a ≡ flat_map with_line_feed lines → HasNoOwn a
+abbrev passed_no_own : (lines : List (List ℕ)) (a : List ℕ) → AllByRecursion IsOther lines → a ≡ flat_map with_line_feed lines → HasNoOwn a
 passed_no_own lines a others e = record {
   lines = lines;
   rest = [];
@@ -55,6 +55,7 @@ cut_here text left line after a b n h begins own is split =
       parts = h.parts ∙ (λ i. sym s.0 i ++ sym s.1 i);
       none = passed_no_own h.lines a h.all s.0;
       begins = subst BeginsOwn (sym s.1) (Begins line after begins own);
+      whole = λ more. refl;
     }
 
 pub cut_nowhere : (text left a b : List ℕ) (n : ℕ) → HasPassed IsOther text left → IsOneLine left → n ≡ 0 → SplitsAt text n a b → IsCut text a b
@@ -64,6 +65,7 @@ cut_nowhere text left a b n h one is split =
       parts = sym (append-nil text) ∙ (λ i. sym s.0 i ++ sym s.1 i);
       none = record { lines = h.lines; rest = left; parts = s.0 ∙ h.parts; others = h.all; part = one };
       begins = Nothing s.1;
+      whole = λ more. absurd (more s.1);
     }
 
 -- the line with its line feed
@@ -97,7 +99,7 @@ has_feed : (line after : List ℕ) → IsOneLine (line ++ 10 ∷ after) → ⊥
 has_feed [] after one = not_feed after one
 has_feed (c ∷ line) after one = has_feed line after (line_rest c (line ++ 10 ∷ after) one)
 
-begins_same : (text a x b y : List ℕ) → BeginsWithLine text a x → BeginsWithLine text b y → (a ≡ b) × (x ≡ y)
+pub begins_same : (text a x b y : List ℕ) → BeginsWithLine text a x → BeginsWithLine text b y → (a ≡ b) × (x ≡ y)
 begins_same text a x b y one two = first_same a b x y one.whole two.whole (sym one.parts ∙ two.parts)
 
 -- a text is split behind its first line

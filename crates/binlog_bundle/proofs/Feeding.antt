@@ -95,6 +95,12 @@ refused_more (faults.Line n cause) xs ys h =
     closed_is (faults.Line n cause) (xs ++ ys) (closing_stopped (faults.Line n cause) (read (xs ++ ys)) stays)
 refused_more (faults.Truncated n) xs ys h = absurd h
 
+pub stops_more : (fault : JournalFault) (xs ys : List ℕ) → StopsAt fault xs → StopsAt fault (xs ++ ys)
+stops_more (faults.Set fault) xs ys h = full_more fault xs ys h
+stops_more (faults.Line n cause) xs ys h =
+    stops_at (faults.Line n cause) (xs ++ ys) (read_more xs ys ∙ ap (λ (p : Progress BundleStanding). feed_bundle_bytes p ys) h.1 ∙ stopped_stays judge_bundle (faults.Line n cause) ys)
+stops_more (faults.Truncated n) xs ys h = absurd h
+
 pub refused_all : (fault : JournalFault) (bytes : List ℕ) → StopsAt fault bytes → IsRefused fault bytes
 refused_all (faults.Set fault) bytes h = h
 refused_all (faults.Line n cause) bytes h = (h.0, sym (closing_stopped (faults.Line n cause) (read bytes) h.1))

@@ -2,3 +2,8 @@ pub mod Feeding
 pub mod Cutting
 pub mod Coming
 pub mod OwnLines
+pub mod Heading
+pub mod Saying
+pub mod Lacking
+pub mod Noting
+pub mod Counting

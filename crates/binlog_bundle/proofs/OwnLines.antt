@@ -3,15 +3,12 @@ use Rattle.std.proofs.Common.{◌≡◌, ◌⊎◌, ℕ, eqb, Bool, true, false,
 use Rattle.std.specs.Prelude.{◌&&◌, ◌||◌}
 use Rattle.std.specs.List.{AllByRecursion}
 use Rattle.std.proofs.lemmas.Bool.{eqb-true}
-use Rattle.gtid_set.specs.Sets.{Gtids}
-use Rattle.journal.specs.declared.Entry.{Entry}
 use Rattle.txn_journal.specs.Words.{IsOneLine}
 use Rattle.binlog_text.specs.Lines.{Content, IsLine}
 use Rattle.binlog_text.specs.Reading.{line_of}
 use Rattle.binlog_text.proofs.LinesAgain.{line_again}
-use Rattle.binlog_entries.specs.Stream.{HaveContents, IsLog}
-use Rattle.binlog_entries.specs.declared.varied.Varied.{Varied}
-use Rattle.binlog_bundle.specs.Lines.{is_own, IsOther, HasNoOwn}
+use Rattle.binlog_entries.specs.Stream.{HaveContents}
+use Rattle.binlog_bundle.specs.Lines.{is_own, IsOther, HasNoOwn, IsSomeLog}
 
 one_of : (x y p q : Bool) → (x && p) || (y && q) ≡ true → (x ≡ true) ⊎ (y ≡ true)
 one_of true y p q e = inl refl
@@ -40,8 +37,8 @@ said_others (line ∷ lines) (l ∷ ls) content whole = ((whole.0, line_other l 
 said_others [] (l ∷ ls) content whole = absurd content
 said_others (line ∷ lines) [] content whole = absurd content
 
-pub log_others : (text : List ℕ) (previous : Gtids) (entries : List Entry) (varied : List Varied) → IsLog text previous entries varied → HasNoOwn text
-log_others text previous entries varied log = record {
+pub log_others : (text : List ℕ) → IsSomeLog text → HasNoOwn text
+log_others text (opening, previous, entries, varied, log) = record {
   lines = log.lines;
   rest = [];
   parts = log.parts ∙ sym (append-nil _);

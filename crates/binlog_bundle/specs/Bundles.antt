@@ -1,11 +1,15 @@
 -- A bundle whose journals are the texts of logs.
-use Rattle.std.specs.Prelude.{◌≡◌, ℕ, Bool, true, List, [], ◌++◌, codes}
+use Rattle.std.specs.Prelude.{◌≡◌, ◌≤◌, ℕ, true, List, [], ◌++◌, length, map, codes, Option}
 use Rattle.std.specs.List.{flat_map, AllByRecursion}
-use Rattle.rows.specs.declared.schema.Table.{Table}
+use Rattle.gtid_set.specs.Sets.{Gtids}
 use Rattle.txn_journal.specs.BundleStates.{BundleValue}
 use Rattle.txn_journal.specs.BundleText.{WritesBundle}
 use Rattle.binlog_entries.specs.Imports.{Imports}
 use Rattle.binlog_bundle.specs.Lines.{with_line_feed, is_channel, HasNoOwn}
+use Rattle.binlog_bundle.specs.Notes.{notes_for}
+use Rattle.binlog_bundle.specs.Heads.{IsPlainHead}
+use Rattle.binlog_bundle.specs.Executed.{HadExecuted, AreWithin}
+use Rattle.binlog_bundle.specs.declared.grants.Grants.{Grants}
 
 abbrev pub done_line : List ℕ
 done_line = with_line_feed (codes "done")
@@ -15,47 +19,70 @@ pub data BeginsLast (text : List ℕ) : Type 0 where
   Nowhere : text ≡ [] → BeginsLast text
   Last : (after : List ℕ) → text ≡ done_line ++ after → BeginsLast text
 
--- a channel's line, the text of its log, and that of the journal which the log describes
+-- A channel's line, that line in the bundle, and what it says was executed; the text of its log, that of the journal which the log
+-- describes, and the places of the tables with a key that isn't compared by bytes; and what is noted of the channel.
 pub record ImportedLog : Type 0 where
   pub line : List ℕ
+  pub own : List ℕ
+  pub executed : Option Gtids
   pub log : List ℕ
   pub journal : List ℕ
+  pub varied : List ℕ
+  pub notes : List ℕ
 
 abbrev pub log_text : ImportedLog → List ℕ
-log_text b = with_line_feed b.line ++ b.log
+log_text c = with_line_feed c.line ++ c.log
 
 abbrev pub journal_text : ImportedLog → List ℕ
-journal_text b = with_line_feed b.line ++ b.journal
+journal_text c = with_line_feed c.own ++ c.journal
 
--- the tables of the bundle that this head begins
-abbrev pub HasTables : List ℕ → List Table → Type 0
-HasTables head tables = (start : BundleValue) × WritesBundle (head ++ done_line) start × (tables ≡ start.start.schema)
+-- this bundle is the one that the plain head alone begins: its tables and opening set
+abbrev pub IsStart : List ℕ → BundleValue → Type 0
+IsStart plain start = WritesBundle (plain ++ done_line) start
 
--- the log describes the journal, whose entries change the tables of this head
-pub record IsImported (bytes : Bool) (head : List ℕ) (b : ImportedLog) : Type 0 where
-  pub tables : List Table
-  pub has : HasTables head tables
-  pub channel : is_channel b.line ≡ true
-  pub alone : HasNoOwn b.log
-  pub imports : Imports tables bytes b.log b.journal
+-- the log describes the journal, whose entries change the tables of this head; and the line says what was executed
+pub record IsImported (grants : Grants) (plain : List ℕ) (c : ImportedLog) : Type 0 where
+  pub start : BundleValue
+  pub has : IsStart plain start
+  pub channel : is_channel c.line ≡ true
+  pub says : HadExecuted grants c.line c.own c.executed
+  pub alone : HasNoOwn c.log
+  pub imports : Imports start.start.schema start.opened grants.bytes c.log c.journal c.varied
+  pub notes_are : c.notes ≡ notes_for start c.own c.varied c.executed
 
--- The two texts have the same head and the same lines of channels, and the log of each channel is in the one where the journal that it
--- describes is in the other.
-pub record Corresponds (bytes : Bool) (head text written : List ℕ) : Type 0 where
-  pub channels_of_logs : List ImportedLog
-  pub imported : AllByRecursion (IsImported bytes head) channels_of_logs
-  pub text_is : text ≡ head ++ flat_map log_text channels_of_logs
-  pub written_is : written ≡ head ++ flat_map journal_text channels_of_logs
+-- The two texts have the same lines of channels, but for what was executed, and the log of each channel is in the one where the journal
+-- that it describes is in the other. The head of the second is the plain one.
+pub record Corresponds (grants : Grants) (head plain : List ℕ) (channels : List ImportedLog) (text written : List ℕ) : Type 0 where
+  pub imported : AllByRecursion (IsImported grants plain) channels
+  pub text_is : text ≡ head ++ flat_map log_text channels
+  pub written_is : written ≡ plain ++ flat_map journal_text channels
 
--- The text is a bundle's but that the log of each channel is in the place of its journal. Both end in the same last line. Each log is what
--- is between two lines of the bundle's own, so there is one way to read a text so.
-pub record ImportsBundle (bytes : Bool) (text : List ℕ) (b : BundleValue) : Type 0 where
+-- what was executed, by each channel's line
+abbrev pub said : List ImportedLog → List (Option Gtids)
+said channels = map (λ c. c.executed) channels
+
+-- The text is a bundle's but that the log of each channel is in the place of its journal, and that there are lines `unsupported ..` and what
+-- was executed. Both end in the same last line. Each log is what is between two lines of the bundle's own, so there is one way to read a
+-- text so.
+pub record DescribesBundle (grants : Grants) (text : List ℕ) (channels : List ImportedLog) (b : BundleValue) (notes : List ℕ) : Type 0 where
   pub head : List ℕ
+  pub plain : List ℕ
+  pub head_notes : List ℕ
   pub alone : HasNoOwn head
+  pub plain_head : IsPlainHead grants head plain head_notes
   pub front : List ℕ
   pub written : List ℕ
-  pub corresponds : Corresponds bytes head front written
+  pub corresponds : Corresponds grants head plain channels front written
   pub tail : List ℕ
   pub ends : BeginsLast tail
   pub parts : text ≡ front ++ tail
   pub writes : WritesBundle (written ++ tail) b
+  pub notes_are : notes ≡ head_notes ++ flat_map (λ c. c.notes) channels
+
+-- So it describes the bundle, which has a journal for each channel; and what each channel's server had executed, by the channel's line, lies in the
+-- opening set, in what was executed before the channel's journal, and in its entries.
+pub record ImportsBundle (grants : Grants) (text : List ℕ) (b : BundleValue) (notes : List ℕ) : Type 0 where
+  pub channels : List ImportedLog
+  pub describes : DescribesBundle grants text channels b notes
+  pub as_many : length channels ≤ length b.journals
+  pub within : AreWithin b (said channels)

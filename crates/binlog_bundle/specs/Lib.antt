@@ -1,5 +1,8 @@
 pub mod Lines
 pub mod Tables
+pub mod Notes
+pub mod Heads
+pub mod Executed
 pub mod Bundles
 pub mod Refused
 pub mod Channels

@@ -1,8 +1,12 @@
 -- Lines of a bundle among those of logs.
-use Rattle.std.specs.Prelude.{◌≡◌, ℕ, ◌==◌, ◌||◌, Bool, true, false, List, [], ◌∷◌, ◌++◌, codes, nat_eq}
+use Rattle.std.specs.Prelude.{◌≡◌, ◌≢◌, ℕ, ◌==◌, ◌||◌, Bool, true, false, List, [], ◌∷◌, ◌++◌, codes, nat_eq}
 use Rattle.std.specs.List.{starts_with, count_by, flat_map, AllByRecursion}
 use Rattle.std.specs.Str.{bytes_eq}
+use Rattle.gtid_set.specs.Sets.{Gtids}
+use Rattle.journal.specs.declared.Entry.{Entry}
 use Rattle.txn_journal.specs.Words.{IsOneLine, BeginsWithLine}
+use Rattle.binlog_entries.specs.Stream.{IsLog}
+use Rattle.binlog_entries.specs.declared.varied.Varied.{Varied}
 
 abbrev pub with_line_feed : List ℕ → List ℕ
 with_line_feed line = line ++ 10 ∷ []
@@ -30,13 +34,25 @@ pub record HasNoOwn (text : List ℕ) : Type 0 where
   pub others : AllByRecursion IsOther lines
   pub part : IsOneLine rest
 
+-- the text is these whole lines, and less than a line
+pub record AreLines (lines : List (List ℕ)) (text : List ℕ) : Type 0 where
+  pub rest : List ℕ
+  pub parts : text ≡ flat_map with_line_feed lines ++ rest
+  pub whole : AllByRecursion IsOneLine lines
+  pub part : IsOneLine rest
+
 -- a text is nothing, or begins with a line of a bundle's own
 pub data BeginsOwn (text : List ℕ) : Type 0 where
   Nothing : text ≡ [] → BeginsOwn text
   Begins : (line after : List ℕ) → BeginsWithLine text line after → is_own line ≡ true → BeginsOwn text
 
--- what comes before the first line of a bundle's own, and the text from there on
+-- what comes before the first line of a bundle's own, and the text from there on; before a line there are whole lines
 pub record IsCut (text front rest : List ℕ) : Type 0 where
   pub parts : text ≡ front ++ rest
   pub none : HasNoOwn front
   pub begins : BeginsOwn rest
+  pub whole : rest ≢ [] → none.rest ≡ []
+
+-- the text of a log, whatever it means
+abbrev pub IsSomeLog : List ℕ → Type 0
+IsSomeLog text = (opening : Gtids) × (previous : Gtids) × (entries : List Entry) × (varied : List Varied) × IsLog opening text previous entries varied

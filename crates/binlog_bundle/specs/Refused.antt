@@ -1,18 +1,27 @@
 -- What is no bundle of logs.
-use Rattle.std.specs.Prelude.{◌≡◌, ◌⊎◌, ℕ, Bool, true, List, [], ◌∷◌, ◌++◌, None, Err}
+use Rattle.std.specs.Prelude.{◌≡◌, ◌⊎◌, ℕ, true, false, List, [], ◌∷◌, ◌++◌, Option, Some, None, Err}
+use Rattle.gtid_set.specs.Full.{IsFaultOf, IsMemoryOr}
+use Rattle.gtid_set.specs.Sets.{Gtids}
+use Rattle.gtid_set.specs.declared.fault.SetFault.{SetFault}
+use Rattle.gtid_set.specs.declared.fault.SetFault.TheVariants.{PoolFull, SourcesFull}
+use Rattle.journal_words.specs.Gtids.{set_of_word, IsWordFault}
+use Rattle.std.specs.FinSet as set
 use Rattle.txn_journal.specs.BundleReading.{bundle_start, feed_bundle_bytes, closing_bundle}
 use Rattle.txn_journal.specs.BundleRefused.{RefusesBundle}
-use Rattle.txn_journal.specs.BundleStates.{BundleStanding}
+use Rattle.txn_journal.specs.BundleStates.{BundleStanding, BundleValue}
 use Rattle.txn_journal.specs.Stream.{Progress, Reading, Stopped, next_number}
 use Rattle.txn_journal.specs.Words.{BeginsWithLine}
+use Rattle.txn_journal.specs.declared.fault.Cause.TheVariants as causes
 use Rattle.txn_journal.specs.declared.fault.JournalFault.{JournalFault}
 use Rattle.txn_journal.specs.declared.fault.JournalFault.TheVariants as faults
-use Rattle.rows.specs.declared.schema.Table.{Table}
 use Rattle.binlog_entries.specs.Imports.{Imports, IsNoImport}
 use Rattle.binlog_entries.specs.declared.import.ImportFault.{ImportFault}
 use Rattle.binlog_bundle.specs.Lines.{with_line_feed, is_channel, lines_in, HasNoOwn, BeginsOwn, IsCut}
 use Rattle.binlog_bundle.specs.Tables.{HasOther, HasNoOther}
-use Rattle.binlog_bundle.specs.Bundles.{done_line, HasTables, Corresponds}
+use Rattle.binlog_bundle.specs.Heads.{IsPlainHead, IsUnsupported, place_of}
+use Rattle.binlog_bundle.specs.Executed.{IsCutLine, HadExecuted, HasLack, IsFullAt}
+use Rattle.binlog_bundle.specs.Bundles.{done_line, ImportedLog, IsStart, Corresponds, said, DescribesBundle}
+use Rattle.binlog_bundle.specs.declared.grants.Grants.{Grants}
 use Rattle.binlog_bundle.specs.declared.fault.BundleFault.{BundleFault}
 use Rattle.binlog_bundle.specs.declared.fault.BundleFault.TheVariants as bundles
 use Rattle.binlog_bundle.specs.declared.fault.ChannelFault.{ChannelFault}
@@ -26,9 +35,16 @@ fault_at_line (faults.Set fault) line = faults.Set fault
 fault_at_line (faults.Line n cause) line = faults.Line line cause
 fault_at_line (faults.Truncated n) line = faults.Truncated line
 
+-- the fault of a line of the plain head, at its line of the head
+abbrev pub fault_in_head : List (List ℕ) → JournalFault → JournalFault
+fault_in_head lines (faults.Set fault) = faults.Set fault
+fault_in_head lines (faults.Line n cause) = faults.Line (place_of lines n) cause
+fault_in_head lines (faults.Truncated n) = faults.Truncated (place_of lines n)
+
 -- the fault of a bundle whose channel is at this line
 abbrev pub channel_fault_at : ChannelFault → ℕ → BundleFault
 channel_fault_at (channels.Own fault) line = bundles.Own (fault_at_line fault line)
+channel_fault_at channels.Unknown line = bundles.Unknown line
 channel_fault_at (channels.Log fault) line = bundles.Log line fault
 channel_fault_at (channels.Table at) line = bundles.Table line at
 channel_fault_at (channels.Journal fault) line = bundles.Journal (fault_at_line fault line)
@@ -74,32 +90,51 @@ abbrev pub end_for : List ℕ → List ℕ
 end_for [] = []
 end_for (b ∷ bs) = done_line
 
--- The lines before the first of the bundle's own, with the end of a bundle after them where anything comes, are none.
-pub record IsNoHead (fault : JournalFault) (text : List ℕ) : Type 0 where
+-- The plain head, with the end of a bundle after it where anything comes, is none; the fault is counted over the lines of the head.
+pub record IsNoHead (grants : Grants) (fault : JournalFault) (text : List ℕ) : Type 0 where
   pub head : List ℕ
   pub rest : List ℕ
   pub cut : IsCut text head rest
-  pub stops : IsRefused fault (head ++ end_for rest)
+  pub plain : List ℕ
+  pub notes : List ℕ
+  pub plain_head : IsPlainHead grants head plain notes
+  pub own : JournalFault
+  pub stops : IsRefused own (plain ++ end_for rest)
+  pub at : fault ≡ fault_in_head plain_head.lines own
+
+-- a line of the head isn't granted, and the first such line names this
+pub record HasUnsupported (grants : Grants) (what text : List ℕ) : Type 0 where
+  pub head : List ℕ
+  pub rest : List ℕ
+  pub cut : IsCut text head rest
+  pub first : IsUnsupported grants what head
 
 -- All but what is left of the text has come: the head and whole channels, and nothing is wrong with them where the journals are in the place of the logs.
-pub record HasTaken (bytes : Bool) (head front written left text : List ℕ) : Type 0 where
+pub record HasTaken (grants : Grants) (head plain front written left text : List ℕ) : Type 0 where
   pub alone : HasNoOwn head
-  pub corresponds : Corresponds bytes head front written
+  pub notes : List ℕ
+  pub plain_head : IsPlainHead grants head plain notes
+  pub channels : List ImportedLog
+  pub corresponds : Corresponds grants head plain channels front written
   pub parts : text ≡ front ++ left
   pub begins : BeginsOwn left
   pub taken : IsTaken written
 
--- The next line of the bundle's own is none of a bundle's there; it has this number.
-pub record IsNoLine (bytes : Bool) (fault : JournalFault) (line : ℕ) (text : List ℕ) : Type 0 where
+-- The next line of the bundle's own, without what was executed, is none of a bundle's there; it has this number.
+pub record IsNoLine (grants : Grants) (fault : JournalFault) (line : ℕ) (text : List ℕ) : Type 0 where
   pub head : List ℕ
+  pub plain : List ℕ
   pub front : List ℕ
   pub written : List ℕ
   pub left : List ℕ
-  pub come : HasTaken bytes head front written left text
+  pub come : HasTaken grants head plain front written left text
   pub next : List ℕ
   pub after : List ℕ
   pub begins : BeginsWithLine left next after
-  pub stops : StopsAt fault (written ++ with_line_feed next)
+  pub own : List ℕ
+  pub word : Option (List ℕ)
+  pub cut : IsCutLine next own word
+  pub stops : StopsAt fault (written ++ with_line_feed own)
   pub number : line ≡ next_number (lines_in front)
 
 -- this is the last line of a bundle, or there is none
@@ -108,13 +143,14 @@ IsLast last behind = (last ≡ done_line) ⊎ ((last ≡ []) × (behind ≡ []))
 
 -- No further channel comes, and what is after the last line, or that there is none, makes the whole no bundle; this is the number of the
 -- line after it.
-pub record IsNoEnd (bytes : Bool) (fault : JournalFault) (line : ℕ) (text : List ℕ) : Type 0 where
+pub record IsNoEnd (grants : Grants) (fault : JournalFault) (line : ℕ) (text : List ℕ) : Type 0 where
   pub head : List ℕ
+  pub plain : List ℕ
   pub front : List ℕ
   pub written : List ℕ
   pub last : List ℕ
   pub behind : List ℕ
-  pub come : HasTaken bytes head front written (last ++ behind) text
+  pub come : HasTaken grants head plain front written (last ++ behind) text
   pub ends : IsLast last behind
   pub taken : IsTaken (written ++ last)
   pub stops : IsRefused fault (written ++ (last ++ behind))
@@ -126,76 +162,148 @@ pub record HasChannel (left channel log rest : List ℕ) : Type 0 where
   pub is : is_channel channel ≡ true
   pub cut : IsCut (log ++ rest) log rest
 
--- The line of a channel comes next; it has this number. Its log is not imported.
-pub record IsNoLog (bytes : Bool) (fault : ImportFault) (line : ℕ) (text : List ℕ) : Type 0 where
+-- The line of a channel comes next, and has this number: without what was executed it is taken as a bundle's, after these bytes. This is
+-- its log, and this the bundle that the head begins.
+pub record HasNext (grants : Grants) (line : ℕ) (text written channel own log : List ℕ) (start : BundleValue) : Type 0 where
   pub head : List ℕ
+  pub plain : List ℕ
   pub front : List ℕ
-  pub written : List ℕ
   pub left : List ℕ
-  pub come : HasTaken bytes head front written left text
-  pub channel : List ℕ
-  pub log : List ℕ
+  pub come : HasTaken grants head plain front written left text
   pub rest : List ℕ
   pub next : HasChannel left channel log rest
-  pub taken : IsTaken (written ++ with_line_feed channel)
-  pub tables : List Table
-  pub has : HasTables head tables
-  pub none : IsNoImport tables bytes fault log
+  pub taken : IsTaken (written ++ with_line_feed own)
+  pub has : IsStart plain start
   pub number : line ≡ next_number (lines_in front)
+
+-- a channel whose line says by this word, or doesn't say, what was executed
+pub record HasWord (grants : Grants) (line : ℕ) (text : List ℕ) (word : Option (List ℕ)) : Type 0 where
+  pub written : List ℕ
+  pub channel : List ℕ
+  pub own : List ℕ
+  pub log : List ℕ
+  pub start : BundleValue
+  pub next : HasNext grants line text written channel own log start
+  pub cut : IsCutLine channel own word
+
+-- the line doesn't say what was executed, and that isn't granted
+abbrev pub IsUnknown : Grants → ℕ → List ℕ → Type 0
+IsUnknown grants line text = HasWord grants line text None × (grants.executed_unknown ≡ false)
+
+-- what it says is no set
+abbrev pub HasNoSet : Grants → ℕ → List ℕ → Type 0
+HasNoSet grants line text = (word : List ℕ) × HasWord grants line text (Some word) × (set_of_word word ≡ None)
+
+-- what it says is a set with too many sources or intervals
+abbrev pub HasFullSet : Grants → SetFault → List ℕ → Type 0
+HasFullSet grants fault text = (line : ℕ) × (word : List ℕ) × HasWord grants line text (Some word) × IsWordFault fault (set_of_word word)
+
+-- A channel, as far as its line goes: it says what was executed, or needn't.
+pub record HasLog (grants : Grants) (line : ℕ) (text log written channel own : List ℕ) (executed : Option Gtids) (start : BundleValue) : Type 0 where
+  pub next : HasNext grants line text written channel own log start
+  pub says : HadExecuted grants channel own executed
+
+-- The line of a channel comes next; it has this number. Its log is not imported.
+pub record IsNoLog (grants : Grants) (fault : ImportFault) (line : ℕ) (text : List ℕ) : Type 0 where
+  pub written : List ℕ
+  pub channel : List ℕ
+  pub own : List ℕ
+  pub log : List ℕ
+  pub executed : Option Gtids
+  pub start : BundleValue
+  pub has : HasLog grants line text log written channel own executed start
+  pub none : IsNoImport start.start.schema start.opened grants.bytes fault log
 
 -- The same, but that its log describes a journal that is none of a bundle's there; these are the tables of the head.
-pub record CantFollow (bytes : Bool) (fault : JournalFault) (line : ℕ) (text : List ℕ) (tables : List Table) (log : List ℕ) : Type 0 where
-  pub head : List ℕ
-  pub front : List ℕ
+pub record CantFollow (grants : Grants) (fault : JournalFault) (line : ℕ) (text : List ℕ) (start : BundleValue) (log : List ℕ) : Type 0 where
   pub written : List ℕ
-  pub left : List ℕ
-  pub come : HasTaken bytes head front written left text
   pub channel : List ℕ
-  pub rest : List ℕ
-  pub next : HasChannel left channel log rest
-  pub taken : IsTaken (written ++ with_line_feed channel)
-  pub has : HasTables head tables
+  pub own : List ℕ
+  pub executed : Option Gtids
+  pub has : HasLog grants line text log written channel own executed start
   pub journal : List ℕ
-  pub imports : Imports tables bytes log journal
-  pub stops : StopsAt fault (written ++ (with_line_feed channel ++ journal))
-  pub number : line ≡ next_number (lines_in front)
+  pub varied : List ℕ
+  pub imports : Imports start.start.schema start.opened grants.bytes log journal varied
+  pub stops : StopsAt fault (written ++ (with_line_feed own ++ journal))
 
 -- a line of the journal is refused, and the first line of the log that maps a table which is none of those of the head has this number
-pub record HasTableFault (bytes : Bool) (at line : ℕ) (text : List ℕ) : Type 0 where
-  pub tables : List Table
+pub record HasTableFault (grants : Grants) (at line : ℕ) (text : List ℕ) : Type 0 where
+  pub start : BundleValue
   pub log : List ℕ
   pub fault : JournalFault
   pub of_line : IsOfLine fault
-  pub follow : CantFollow bytes fault line text tables log
-  pub other : HasOther tables at log
+  pub follow : CantFollow grants fault line text start log
+  pub other : HasOther start.start.schema at log
 
 -- a journal is refused; where it is for one of its lines, no line of the log maps another table
-pub record HasJournalFault (bytes : Bool) (fault : JournalFault) (line : ℕ) (text : List ℕ) : Type 0 where
-  pub tables : List Table
+pub record HasJournalFault (grants : Grants) (fault : JournalFault) (line : ℕ) (text : List ℕ) : Type 0 where
+  pub start : BundleValue
   pub log : List ℕ
-  pub follow : CantFollow bytes fault line text tables log
-  pub no_other : IsOfLine fault → HasNoOther tables log
+  pub follow : CantFollow grants fault line text start log
+  pub no_other : IsOfLine fault → HasNoOther start.start.schema log
+
+-- the notes on a channel want what wasn't executed of the opening set, which has too many intervals
+pub record HasFullNote (grants : Grants) (fault : SetFault) (text : List ℕ) : Type 0 where
+  pub line : ℕ
+  pub written : List ℕ
+  pub channel : List ℕ
+  pub own : List ℕ
+  pub log : List ℕ
+  pub executed : Gtids
+  pub start : BundleValue
+  pub has : HasLog grants line text log written channel own (Some executed) start
+  pub full : IsFaultOf fault (set.difference start.opened executed)
+
+-- ---- what was executed
+
+-- The text describes a bundle. The server of this channel had executed more than its log describes, and it is the first of which that is so.
+pub record HasMore (grants : Grants) (channel : List ℕ) (missing : Gtids) (text : List ℕ) : Type 0 where
+  pub bundle : BundleValue
+  pub notes : List ℕ
+  pub logs : List ImportedLog
+  pub describes : DescribesBundle grants text logs bundle notes
+  pub lack : HasLack bundle (said logs) channel missing
+
+-- the same, but that the set which a channel lacks isn't made
+pub record IsTooLarge (grants : Grants) (fault : SetFault) (text : List ℕ) : Type 0 where
+  pub bundle : BundleValue
+  pub notes : List ℕ
+  pub logs : List ImportedLog
+  pub describes : DescribesBundle grants text logs bundle notes
+  pub full : IsFullAt fault bundle (said logs)
 
 -- ---- the fault that is reported
 
-abbrev pub IsNoNext : Bool → JournalFault → ℕ → List ℕ → Type 0
-IsNoNext bytes fault line text = IsNoLine bytes fault line text ⊎ IsNoEnd bytes fault line text
+abbrev pub IsNoNext : Grants → JournalFault → ℕ → List ℕ → Type 0
+IsNoNext grants fault line text = IsNoLine grants fault line text ⊎ IsNoEnd grants fault line text
 
--- the fault names a line of the text's own
-abbrev pub IsNoOwn : Bool → JournalFault → List ℕ → Type 0
-IsNoOwn bytes (faults.Set fault) text = IsNoHead (faults.Set fault) text ⊎ ((n : ℕ) × IsNoNext bytes (faults.Set fault) n text)
-IsNoOwn bytes (faults.Line n cause) text = IsNoHead (faults.Line n cause) text ⊎ ((m : ℕ) × IsNoNext bytes (faults.Line m cause) n text)
-IsNoOwn bytes (faults.Truncated n) text = IsNoHead (faults.Truncated n) text ⊎ ((m : ℕ) × IsNoNext bytes (faults.Truncated m) n text)
+-- A set is full: one of the bundle's, that which a channel's line says was executed, that of a note, or that which a channel lacks.
+pub data IsFull (grants : Grants) (fault : SetFault) (text : List ℕ) : Type 0 where
+  InHead : IsNoHead grants (faults.Set fault) text → IsFull grants fault text
+  InLine : (n : ℕ) → IsNoNext grants (faults.Set fault) n text → IsFull grants fault text
+  InWord : HasFullSet grants fault text → IsFull grants fault text
+  InNote : HasFullNote grants fault text → IsFull grants fault text
+  InLack : IsTooLarge grants fault text → IsFull grants fault text
+
+-- the fault names a line of the text's own; where memory was refused, nothing is claimed of it
+abbrev pub IsNoOwn : Grants → JournalFault → List ℕ → Type 0
+IsNoOwn grants (faults.Set fault) text = IsMemoryOr (IsFull grants SourcesFull text) (IsFull grants PoolFull text) fault
+IsNoOwn grants (faults.Line n cause) text = IsNoHead grants (faults.Line n cause) text ⊎ (((m : ℕ) × IsNoNext grants (faults.Line m cause) n text) ⊎ ((cause ≡ causes.Body) × HasNoSet grants n text))
+IsNoOwn grants (faults.Truncated n) text = IsNoHead grants (faults.Truncated n) text ⊎ ((m : ℕ) × IsNoNext grants (faults.Truncated m) n text)
 
 -- the fault names the line of a channel
-abbrev pub IsNoneOf : Bool → JournalFault → List ℕ → Type 0
-IsNoneOf bytes (faults.Set fault) text = (n : ℕ) × HasJournalFault bytes (faults.Set fault) n text
-IsNoneOf bytes (faults.Line n cause) text = (m : ℕ) × HasJournalFault bytes (faults.Line m cause) n text
-IsNoneOf bytes (faults.Truncated n) text = ⊥
+abbrev pub IsNoneOf : Grants → JournalFault → List ℕ → Type 0
+IsNoneOf grants (faults.Set fault) text = (n : ℕ) × HasJournalFault grants (faults.Set fault) n text
+IsNoneOf grants (faults.Line n cause) text = (m : ℕ) × HasJournalFault grants (faults.Line m cause) n text
+IsNoneOf grants (faults.Truncated n) text = ⊥
 
--- Why a text is no bundle of logs. Only the fault is reported that the first wrong line, or the log of the first wrong channel, has.
-abbrev pub IsNoBundle : Bool → BundleFault → List ℕ → Type 0
-IsNoBundle bytes (bundles.Own fault) text = IsNoOwn bytes fault text
-IsNoBundle bytes (bundles.Log line fault) text = IsNoLog bytes fault line text
-IsNoBundle bytes (bundles.Table line at) text = HasTableFault bytes at line text
-IsNoBundle bytes (bundles.Journal fault) text = IsNoneOf bytes fault text
+-- Why a text is no bundle of logs. Only the fault is reported that the first wrong line, or the log of the first wrong channel, has; lines of the
+-- head that aren't granted come before all others, and what was executed comes after them.
+abbrev pub IsNoBundle : Grants → BundleFault → List ℕ → Type 0
+IsNoBundle grants (bundles.Own fault) text = IsNoOwn grants fault text
+IsNoBundle grants (bundles.Log line fault) text = IsNoLog grants fault line text
+IsNoBundle grants (bundles.Table line at) text = HasTableFault grants at line text
+IsNoBundle grants (bundles.Journal fault) text = IsNoneOf grants fault text
+IsNoBundle grants (bundles.Unsupported what) text = HasUnsupported grants what.items text
+IsNoBundle grants (bundles.Unknown line) text = IsUnknown grants line text
+IsNoBundle grants (bundles.Executed channel missing) text = HasMore grants channel missing text

@@ -3,25 +3,29 @@ ghost use Rattle.std.specs.Prelude.{◌≡◌};
 ghost use Rattle.binlog_bundle.specs.Refused.{fault_at_line, channel_fault_at};
 
 use binlog_entries::ImportFault;
-use thiserror::Error;
+use gtid_set::GtidSet;
+use rows::Name;
 use txn_journal::JournalFault;
 
 /// Why a bundle of logs is not read. Lines count from 1 over the whole text.
-#[derive(Clone, Copy, Debug, PartialEq, Eq, Error)]
+#[derive(Drop)]
 pub enum BundleFault {
-    /// A line of the bundle's own is faulty, or the text ends before its last line.
-    #[error("{0}")]
+    /// A line of the bundle's own is faulty, or the text ends before its last line; or memory was refused, or a set is full.
     Own(JournalFault),
     /// The log after the line of a channel is not imported; its own lines count from the next one.
-    #[error("the log behind line {line}: {fault}")]
     Log { line: u64, fault: ImportFault },
     /// A line of the log after the line of a channel maps a table that the bundle has not; it counts from the next one.
-    #[error("line {at} of the log behind line {line} maps another table")]
     Table { line: u64, at: u64 },
     /// The bundle's tables or the limits of its format do not allow what the log after the line of a channel describes. The fault names
     /// that line.
-    #[error("the journal behind that line: {0}")]
     Journal(JournalFault),
+    /// A line `unsupported ..` of the head isn't granted: what follows that word in the first such line.
+    Unsupported(Vec<u8>),
+    /// The line of a channel doesn't say what its server had executed.
+    Unknown { line: u64 },
+    /// The server of the channel had executed more than its log describes: the missing GTIDs are in neither the opening set, nor the set
+    /// that was executed before the log, nor its entries. Of such channels it is the first.
+    Executed { channel: Name, missing: GtidSet },
 }
 
 /// The same fault at another line.
@@ -36,9 +40,10 @@ pub fn fault_at_line(fault: JournalFault, line: u64) -> JournalFault
 }
 
 /// Why a channel is not read, without its line.
-#[derive(Clone, Copy, Debug, PartialEq, Eq)]
+#[derive(Drop)]
 pub enum ChannelFault {
     Own(JournalFault),
+    Unknown,
     Log(ImportFault),
     Table(u64),
     Journal(JournalFault),
@@ -51,6 +56,7 @@ impl ChannelFault {
     {
         match self {
             ChannelFault::Own(fault) => BundleFault::Own(fault_at_line(fault, line)),
+            ChannelFault::Unknown => BundleFault::Unknown { line },
             ChannelFault::Log(fault) => BundleFault::Log { line, fault },
             ChannelFault::Table(at) => BundleFault::Table { line, at },
             ChannelFault::Journal(fault) => BundleFault::Journal(fault_at_line(fault, line)),

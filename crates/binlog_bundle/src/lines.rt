@@ -1,5 +1,5 @@
 //! Lines of a bundle among those of logs.
-ghost use Rattle.std.specs.Prelude.{◌≡◌, ◌++◌, ℕ, List, length};
+ghost use Rattle.std.specs.Prelude.{◌≡◌, ◌≢◌, ◌++◌, ℕ, List, length, MatchOption, option_copied, slice_get};
 ghost use Rattle.txn_journal.specs.Stream.{next_number};
 ghost use Rattle.txn_journal.specs.Words.{BeginsWithLine};
 ghost use Rattle.binlog_bundle.specs.Lines.{with_line_feed, is_channel, is_own, lines_in, IsCut};
@@ -18,6 +18,20 @@ fn is_own(line: &[u8]) -> bool
     ensures { result ≡ is_own line.now }
 {
     is_channel(line) || line == b"done".as_slice()
+}
+
+/// What follows the front of a text that begins with it.
+pub fn strip<'a>(text: &'a [u8], front: &[u8]) -> Option<&'a [u8]>
+    ensures { MatchOption result ((rest : List ℕ) → text.now ≢ front.now ++ rest) (λ rest. text.now ≡ front.now ++ rest.now) }
+{
+    text.strip_prefix(front)
+}
+
+/// An item of a list, if there is one at this place.
+pub fn item_at<T>(list: &[T], place: usize) -> Option<&T>
+    ensures { option_copied result ≡ slice_get list.now place }
+{
+    list.get(place)
 }
 
 /// A text before and after the place where so many bytes are left.

@@ -2,11 +2,11 @@
 ghost use Rattle.std.specs.Prelude.{◌++◌, ℕ, List, IfOk, IfErr, OnOk};
 ghost use Rattle.txn_journal.specs.BundleText.{WritesBundle};
 ghost use Rattle.txn_journal.specs.BundleReaders.{bundle_reading};
-ghost use Rattle.binlog_bundle.specs.Bundles.{done_line};
+ghost use Rattle.binlog_bundle.specs.Lines.{with_line_feed};
 ghost use Rattle.binlog_bundle.specs.Refused.{IsFed, StopsAt, IsRefused};
 
 use std::alloc::Global;
-use txn_journal::{Bundle, BundleReader, JournalFault, decode_bundle};
+use txn_journal::{Bundle, BundleReader, JournalFault};
 
 /// Takes the next piece of the bundle's text.
 pub fn add(alloc: Global, reader: &mut BundleReader, piece: &[u8]) -> Result<(), JournalFault>
@@ -14,6 +14,17 @@ pub fn add(alloc: Global, reader: &mut BundleReader, piece: &[u8]) -> Result<(),
     ensures refused { (before : List ℕ) → IsFed (bundle_reading reader.old) before → IfErr result (λ fault. StopsAt fault (before ++ piece.now)) }
 {
     reader.feed(alloc, piece)
+}
+
+/// Takes the next line of the bundle's text, which is given without its line feed.
+pub fn add_line(alloc: Global, reader: &mut BundleReader, line: &[u8]) -> Result<(), JournalFault>
+    ensures fed { (before : List ℕ) → IsFed (bundle_reading reader.old) before → OnOk result (IsFed (bundle_reading reader.new) (before ++ with_line_feed line.now)) }
+    ensures refused { (before : List ℕ) → IsFed (bundle_reading reader.old) before → IfErr result (λ fault. StopsAt fault (before ++ with_line_feed line.now)) }
+{
+    match add(alloc, reader, line) {
+        Ok(()) => add(alloc, reader, b"\n"),
+        Err(fault) => Err(fault),
+    }
 }
 
 /// Takes the last piece of the bundle's text.
@@ -28,13 +39,14 @@ pub fn close(alloc: Global, reader: BundleReader, piece: &[u8]) -> Result<Bundle
     }
 }
 
-/// The bundle that these lines alone begin.
-pub fn read_head(alloc: Global, head: &[u8]) -> Result<Bundle, JournalFault>
-    ensures found { IfOk result (λ b. WritesBundle (head.now ++ done_line) b) }
-    ensures refused { IfErr result (λ fault. IsRefused fault (head.now ++ done_line)) }
+/// The bundle of this text, which comes in two pieces.
+pub fn read_both(alloc: Global, front: &[u8], back: &[u8]) -> Result<Bundle, JournalFault>
+    ensures found { IfOk result (λ b. WritesBundle (front.now ++ back.now) b) }
+    ensures refused { IfErr result (λ fault. IsRefused fault (front.now ++ back.now)) }
 {
-    let mut text = Vec::new(alloc);
-    text.extend_from_slice(head)?;
-    text.extend_from_slice(b"done\n")?;
-    decode_bundle(alloc, &text)
+    let mut reader = BundleReader::start(alloc);
+    match add(alloc, &mut reader, front) {
+        Ok(()) => close(alloc, reader, back),
+        Err(fault) => Err(fault),
+    }
 }

@@ -1,15 +1,18 @@
-use Rattle.std.proofs.Common.{[]}
+use Rattle.std.proofs.Common.{[], subst}
 use Rattle.txn_journal.specs.BundleReaders.{bundle_reading}
-use Rattle.binlog_bundle.specs.Bundles.{done_line}
-use Rattle.binlog_bundle.proofs.Feeding.{refused_more, start_fed}
+use Rattle.binlog_bundle.specs.Refused.{IsFed, StopsAt}
+use Rattle.binlog_bundle.proofs.Feeding.{start_fed}
+use Rattle.binlog_bundle.proofs.Heading.{head_lines}
 use Rattle.binlog_bundle.proofs.Coming.{come_head, start_refused}
 use Rattle.binlog_bundle.proofs.import.import_channels.Goals as goal
 
 pub returns-in-Err-clause-refused : goal.returns-in-Err-clause-refused
 returns-in-Err-clause-refused c =
-    start_refused c.args.bytes c.in-Err.fault c.args.text.now c.args.head.now c.args.rest.now c.requires.cut c.requires.more
-    (refused_more c.in-Err.fault c.args.head.now done_line (c.in-Err.ensures.refused [] (start_fed (bundle_reading c.start-reader.result) c.start-reader.ensures)))
+    start_refused c.args.grants c.in-Err.fault c.fault_in_head.result c.args.text.now c.args.head.now c.args.plain.text.items c.args.plain.notes.items c.args.rest.now c.requires.head
+    (subst (StopsAt c.in-Err.fault) c.deref.ensures.value (c.in-Err.ensures.refused [] (start_fed (bundle_reading c.start.result) c.start.ensures)))
+    (c.fault_in_head.ensures c.requires.head.plain_head.lines (head_lines c.args.grants c.args.head.now c.args.plain.text.items c.args.plain.notes.items c.requires.head.plain_head))
 
-pub take_channels-requires-clause-come : goal.take_channels-requires-clause-come
-take_channels-requires-clause-come c =
-    come_head c.args.bytes c.args.head.now c.args.text.now c.args.rest.now (bundle_reading c.add.new.reader) c.requires.cut (c.in-Ok.ensures.fed [] (start_fed (bundle_reading c.start-reader.result) c.start-reader.ensures))
+pub take_channels-requires : goal.take_channels-requires
+take_channels-requires c =
+    come_head c.args.grants c.args.start.now c.args.head.now c.args.plain.text.items c.args.text.now c.args.rest.now (record { reader = c.add.new.reader; executed = c.new.result; notes = c.args.plain.notes }) c.requires.head c.requires.begins
+    (subst (IsFed (bundle_reading c.add.new.reader)) c.deref.ensures.value (c.in-Ok.ensures.fed [] (start_fed (bundle_reading c.start.result) c.start.ensures))) c.new.ensures.items

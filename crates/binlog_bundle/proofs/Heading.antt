@@ -1,0 +1,191 @@
+-- Heads, and their lines `unsupported ..`.
+use Rattle.std.proofs.Common.{◌≡◌, ◌≢◌, ℕ, ◌+◌, ◌-◌, ◌<◌, ◌≤◌, Bool, true, false, not, List, [], ◌∷◌, ◌++◌, length, codes, Option, Some, None, Bor, MatchOption, refl, sym, ap, ◌∙◌, subst, append_assoc, length-append, zero-add, add-zero, arith}
+use Rattle.std.specs.Prelude.{◌&&◌, ◌||◌, nat_eq, nat_le, if◌then◌else◌}
+use Rattle.std.specs.List.{starts_with, flat_map, AllByRecursion}
+use Rattle.std.proofs.lemmas.Slice.Eq.{starts_is}
+use Rattle.std.proofs.lemmas.Bool.Decides.{Decides-eqb, nat_tests}
+use Rattle.txn_journal.specs.Words.{IsOneLine, BeginsWithLine}
+use Rattle.binlog_entries.proofs.TransactionLaws.{flat_map_more}
+use Rattle.binlog_bundle.specs.Lines.{with_line_feed, AreLines}
+use Rattle.binlog_bundle.specs.Notes.{references_note, named_key}
+use Rattle.binlog_bundle.specs.Heads.{is_unsupported, is_granted, plain_text, line_note, IsGranted, IsGrantedKey, NoGrantedKey, IsPlainHead, IsNotGranted, IsNoPlainHead, skipped}
+use Rattle.binlog_bundle.specs.declared.head.HeadFault.{HeadFault}
+use Rattle.binlog_bundle.specs.declared.head.HeadFault.TheVariants as heads
+use Rattle.binlog_bundle.specs.declared.grants.Grants.{Grants}
+use Rattle.binlog_bundle.proofs.Cutting.{all_more, line_ends, begins_same, no_first}
+
+-- ---- lines
+
+not_begun : (text front : List ℕ) → ((rest : List ℕ) → text ≢ front ++ rest) → starts_with nat_eq text front ≡ false
+not_begun text front denied = known (starts_with nat_eq text front) refl
+  where
+    known : (b : Bool) → starts_with nat_eq text front ≡ b → b ≡ false
+    known false e = refl
+    known true e = absurd (denied _ ((starts_is Decides-eqb text front (starts_with nat_eq text front) refl).0 e))
+
+abbrev pub TakesPlain : Grants → List ℕ → Type 0
+TakesPlain grants line = (is_granted grants line ≡ true) × (plain_text line ≡ with_line_feed line) × (line_note line ≡ [])
+
+pub plain_line : (grants : Grants) (line : List ℕ) → ((rest : List ℕ) → line ≢ codes "unsupported " ++ rest) → TakesPlain grants line
+plain_line grants line denied =
+    let e = not_begun line (codes "unsupported ") denied in
+    ((λ i. not (e i) || (grants.without_foreign_keys && starts_with nat_eq line (codes "unsupported foreign-key "))), (λ i. if e i then [] else with_line_feed line), (λ i. if e i then references_note (named_key line) else []))
+
+abbrev pub TakesKey : Grants → List ℕ → List ℕ → Type 0
+TakesKey grants line key = (is_granted grants line ≡ true) × (plain_text line ≡ []) × (line_note line ≡ references_note key)
+
+key_here : (grants : Grants) (key : List ℕ) → grants.without_foreign_keys ≡ true → TakesKey grants (codes "unsupported " ++ (codes "foreign-key " ++ key)) key
+key_here grants key granted = ((λ i. granted i && true), refl, refl)
+
+pub key_line : (grants : Grants) (line what key : List ℕ) → line ≡ codes "unsupported " ++ what → IsGrantedKey grants what key → TakesKey grants line key
+key_line grants line what key e h =
+    let is : codes "unsupported " ++ (codes "foreign-key " ++ key) ≡ line = ap (λ (xs : List ℕ). codes "unsupported " ++ xs) (sym h.1) ∙ sym e in
+    subst (λ (l : List ℕ). TakesKey grants l key) is (key_here grants key h.0)
+
+pub not_false : (b : Bool) → not b ≡ false → b ≡ true
+not_false true e = refl
+not_false false e = absurd cc
+
+and_never : (b : Bool) → b && false ≡ false
+and_never true = refl
+and_never false = refl
+
+no_key : (grants : Grants) (what : List ℕ) → ((rest : List ℕ) → what ≢ codes "foreign-key " ++ rest) → NoGrantedKey grants what
+no_key grants what none = (λ i. grants.without_foreign_keys && not_begun what (codes "foreign-key ") none i) ∙ and_never grants.without_foreign_keys
+
+pub key_if_granted : (grants : Grants) (what : List ℕ) (r : Option (Bor (List ℕ))) → grants.without_foreign_keys ≡ true
+    → MatchOption r ((rest : List ℕ) → what ≢ codes "foreign-key " ++ rest) (λ rest. what ≡ codes "foreign-key " ++ rest.now)
+    → MatchOption r (NoGrantedKey grants what) (λ key. IsGrantedKey grants what key.now)
+key_if_granted grants what None granted none = no_key grants what none
+key_if_granted grants what (Some key) granted e = (granted, e)
+
+-- ---- heads
+
+-- some lines of a head have come, and this is the plain text and the notes of them
+pub record HasHeadCome (grants : Grants) (head left text notes : List ℕ) : Type 0 where
+  pub lines : List (List ℕ)
+  pub parts : head ≡ flat_map with_line_feed lines ++ left
+  pub granted : AllByRecursion (IsGranted grants) lines
+  pub text_is : text ≡ flat_map plain_text lines
+  pub notes_are : notes ≡ flat_map line_note lines
+
+all_of : (f : List ℕ → List ℕ) (xs ys : List ℕ) (ls : List (List ℕ)) (line : List ℕ) → xs ≡ flat_map f ls → ys ≡ xs ++ f line → ys ≡ flat_map f (ls ++ line ∷ [])
+all_of f xs ys ls line e g = g ∙ ap (λ (zs : List ℕ). zs ++ f line) e ∙ sym (flat_map_more f ls line)
+
+pub head_more : (grants : Grants) (head left line after text notes text_new notes_new : List ℕ) → HasHeadCome grants head left text notes → BeginsWithLine left line after → is_granted grants line ≡ true → text_new ≡ text ++ plain_text line → notes_new ≡ notes ++ line_note line → HasHeadCome grants head after text_new notes_new
+head_more grants head left line after text notes text_new notes_new h begins granted t n = record {
+  lines = h.lines ++ line ∷ [];
+  parts =
+      h.parts
+      ∙ ap (λ (xs : List ℕ). flat_map with_line_feed h.lines ++ xs) (begins.parts ∙ line_ends line after)
+      ∙ sym (append_assoc (flat_map with_line_feed h.lines) (with_line_feed line) after)
+      ∙ ap (λ (xs : List ℕ). xs ++ after) (sym (flat_map_more with_line_feed h.lines line));
+  granted = all_more (IsGranted grants) h.lines line h.granted (begins.whole, granted);
+  text_is = all_of plain_text text text_new h.lines line h.text_is t;
+  notes_are = all_of line_note notes notes_new h.lines line h.notes_are n;
+}
+
+pub head_refused : (grants : Grants) (head left line after text notes : List ℕ) (fault : HeadFault) → HasHeadCome grants head left text notes → BeginsWithLine left line after → IsNotGranted grants line fault → IsNoPlainHead grants head fault
+head_refused grants head left line after text notes heads.Memory h begins denied = tt
+head_refused grants head left line after text notes (heads.Unsupported what) h begins denied = record {
+  before = h.lines;
+  rest = after;
+  parts = h.parts ∙ ap (λ (xs : List ℕ). flat_map with_line_feed h.lines ++ xs) (begins.parts ∙ line_ends line after ∙ ap (λ (l : List ℕ). with_line_feed l ++ after) denied.0);
+  granted = h.granted;
+  whole = subst IsOneLine denied.0 begins.whole;
+  refused = denied.1;
+}
+
+pub head_lines : (grants : Grants) (head plain notes : List ℕ) (h : IsPlainHead grants head plain notes) → AreLines h.lines head
+head_lines grants head plain notes h = record { rest = h.rest; parts = h.parts; whole = whole_of h.lines h.granted; part = h.part }
+  where
+    whole_of : (ls : List (List ℕ)) → AllByRecursion (IsGranted grants) ls → AllByRecursion IsOneLine ls
+    whole_of [] all = tt
+    whole_of (l ∷ ls) all = (all.0.0, whole_of ls all.1)
+
+-- ---- numbers of lines
+
+-- so many lines were skipped, and this many of the others are still due
+pub record IsSkipping (lines : List (List ℕ)) (n : ℕ) (left : List ℕ) (count due : ℕ) : Type 0 where
+  pub more : List (List ℕ)
+  pub are : AreLines more left
+  pub counts : skipped lines n ≡ count + skipped more due
+
+pub no_skips : (lines : List (List ℕ)) (n count due : ℕ) (head left : List ℕ) → head ≡ left → count ≡ 0 → due ≡ n → AreLines lines head → IsSkipping lines n left count due
+no_skips lines n count due head left e f g are = record {
+  more = lines;
+  are = subst (AreLines lines) e are;
+  counts = ap (λ (k : ℕ). skipped lines k) (sym g) ∙ sym (zero-add _) ∙ ap (λ (k : ℕ). k + skipped lines due) (sym f);
+}
+
+-- the first of the lines that are left
+pub record HasFirst (more : List (List ℕ)) (line after : List ℕ) : Type 0 where
+  pub rest : List (List ℕ)
+  pub is : more ≡ line ∷ rest
+  pub are : AreLines rest after
+
+first_of : (more : List (List ℕ)) (left line after : List ℕ) → AreLines more left → BeginsWithLine left line after → HasFirst more line after
+first_of [] left line after are begins = no_first left line after (subst IsOneLine (sym are.parts) are.part) begins
+first_of (l ∷ ls) left line after are begins =
+    let parts = are.parts ∙ append_assoc (with_line_feed l) (flat_map with_line_feed ls) are.rest in
+    let s = begins_same left l (flat_map with_line_feed ls ++ are.rest) line after (record { parts = parts ∙ append_assoc l (10 ∷ []) (flat_map with_line_feed ls ++ are.rest); whole = are.whole.0 }) begins in
+    record {
+      rest = ls;
+      is = ap (λ (x : List ℕ). x ∷ ls) s.0;
+      are = record { rest = are.rest; parts = sym s.1; whole = are.whole.1; part = are.part };
+    }
+
+skip_first : (line : List ℕ) (ls : List (List ℕ)) (due : ℕ) → is_unsupported line ≡ true → skipped (line ∷ ls) due ≡ skipped ls due + 1
+skip_first line ls due e = λ i. if e i then skipped ls due + 1 else (if nat_le due 1 then 0 else skipped ls (due - 1))
+
+skip_last : (line : List ℕ) (ls : List (List ℕ)) (due : ℕ) → is_unsupported line ≡ false → nat_le due 1 ≡ true → skipped (line ∷ ls) due ≡ 0
+skip_last line ls due e f = λ i. if e i then skipped ls due + 1 else (if f i then 0 else skipped ls (due - 1))
+
+skip_other : (line : List ℕ) (ls : List (List ℕ)) (due : ℕ) → is_unsupported line ≡ false → nat_le due 1 ≡ false → skipped (line ∷ ls) due ≡ skipped ls (due - 1)
+skip_other line ls due e f = λ i. if e i then skipped ls due + 1 else (if f i then 0 else skipped ls (due - 1))
+
+le_true : (a b : ℕ) → a ≤ b → nat_le a b ≡ true
+le_true a b h = grind (arith, nat_tests)
+
+le_false : (a b : ℕ) → b < a → nat_le a b ≡ false
+le_false a b h = grind (arith, nat_tests)
+
+-- a line and its line feed are gone
+pub shorter : (count : ℕ) (head left line after : List ℕ) → count + length left ≤ length head → BeginsWithLine left line after → (count + 1) + length after ≤ length head
+shorter count head left line after h begins = omega (arith, ap length begins.parts, length-append line (10 ∷ after))
+
+module _ {lines : List (List ℕ)} {n : ℕ} {left line after : List ℕ} {count due : ℕ} (h : IsSkipping lines n left count due) (begins : BeginsWithLine left line after) where
+  first : HasFirst h.more line after
+  first = first_of h.more left line after h.are begins
+
+  at_first : skipped lines n ≡ count + skipped (line ∷ first.rest) due
+  at_first = h.counts ∙ ap (λ (ls : List (List ℕ)). count + skipped ls due) first.is
+
+  pub skips_one : (next : ℕ) → is_unsupported line ≡ true → next ≡ count + 1 → IsSkipping lines n after next due
+  skips_one next e f = record {
+    more = first.rest;
+    are = first.are;
+    counts = at_first ∙ ap (λ (k : ℕ). count + k) (skip_first line first.rest due e) ∙ one_more count (skipped first.rest due) ∙ ap (λ (k : ℕ). k + skipped first.rest due) (sym f);
+  }
+    where
+      one_more : (a b : ℕ) → a + (b + 1) ≡ (a + 1) + b
+      one_more a b = omega arith
+
+  pub skips_none : (next : ℕ) → is_unsupported line ≡ false → 1 < due → next ≡ due - 1 → IsSkipping lines n after count next
+  skips_none next e f g = record {
+    more = first.rest;
+    are = first.are;
+    counts = at_first ∙ ap (λ (k : ℕ). count + k) (skip_other line first.rest due e (le_false due 1 f) ∙ ap (λ (k : ℕ). skipped first.rest k) (sym g));
+  }
+
+  pub skips_all : is_unsupported line ≡ false → due ≤ 1 → skipped lines n ≡ count
+  skips_all e f = at_first ∙ ap (λ (k : ℕ). count + k) (skip_last line first.rest due e (le_true due 1 f)) ∙ add-zero count
+
+pub skips_end : (lines : List (List ℕ)) (n : ℕ) (left : List ℕ) (count due : ℕ) → IsSkipping lines n left count due → IsOneLine left → skipped lines n ≡ count
+skips_end lines n left count due h one = h.counts ∙ ap (λ (ls : List (List ℕ)). count + skipped ls due) (none h.more h.are) ∙ add-zero count
+  where
+    none : (more : List (List ℕ)) → AreLines more left → more ≡ []
+    none [] are = refl
+    none (l ∷ ls) are =
+        let parts = are.parts ∙ append_assoc (with_line_feed l) (flat_map with_line_feed ls) are.rest ∙ append_assoc l (10 ∷ []) (flat_map with_line_feed ls ++ are.rest) in
+        no_first left l (flat_map with_line_feed ls ++ are.rest) one (record { parts = parts; whole = are.whole.0 })

@@ -1,0 +1,12 @@
+//! What an operator grants.
+
+/// What an operator grants: of what a verdict then doesn't see, the notes speak (`ImportedBundle::notes`).
+#[derive(Clone, Copy, Debug, PartialEq, Eq)]
+pub struct Grants {
+    /// Keys that the server compares otherwise than by their bytes are taken.
+    pub bytes: bool,
+    /// Lines `unsupported foreign-key ..` of the head are passed over.
+    pub without_foreign_keys: bool,
+    /// The line of a channel needn't say what its server had executed.
+    pub executed_unknown: bool,
+}
