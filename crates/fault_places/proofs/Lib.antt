@@ -1,2 +1,6 @@
-mod Within
+mod Inversions
+mod Finding
 mod Told
+mod FirstDifference
+mod Within
+mod Worded

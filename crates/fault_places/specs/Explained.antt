@@ -8,7 +8,7 @@ use Rattle.gtid_set.specs.Sets.{Gtids}
 use Rattle.rows.specs.declared.change.Key.{Key}
 use Rattle.rows.specs.declared.change.RowFault.{RowFault}
 use Rattle.rows.specs.declared.change.RowFault.TheVariants.{RowMissing, RowDiffers, DuplicateKey}
-use Rattle.journal.specs.Journals.{JournalValue}
+use Rattle.txn_journal.specs.BundleStates.{BundleValue}
 use Rattle.txn_journal.specs.WrittenSets.{set_text}
 use Rattle.world.specs.declared.verdict.Verdict.{Verdict}
 use Rattle.world.specs.declared.verdict.Verdict.TheVariants.{Unequal, Purged, Missing, Shared, Reordered, Concurrent, NotClosed, DoesNotApply, Sound}
@@ -22,6 +22,8 @@ use Rattle.fault_places.specs.Lines.{second_word, word_at, is_table, shorten}
 use Rattle.fault_places.specs.Places.{line_text, places_of, previous_sets}
 use Rattle.fault_places.specs.Next.{next_there}
 use Rattle.fault_places.specs.Due.{line_at, due_at}
+use Rattle.fault_places.specs.Differences.{difference_under}
+use Rattle.fault_places.specs.Orders.{inverted_pair, inverted_text}
 
 -- ---- verdicts
 
@@ -66,17 +68,17 @@ row_fault_meaning (RowMissing change key) = codes "  E10: no row has the primary
 row_fault_meaning (RowDiffers change key) = codes "  E11: the row with that primary key is another than the change's before image\n"
 row_fault_meaning (DuplicateKey change key) = codes "  E12: a row has this key of the change's after image already\n"
 
--- what explains a verdict on journals, with the other missing GTIDs
-abbrev pub verdict_explained : List (List ℕ) → List JournalValue → Option Gtids → Verdict → List ℕ
-verdict_explained lines journals gtids (Unequal g) = places_of (gtid_text g) Every lines
-verdict_explained lines journals gtids (Purged i purged) = previous_sets lines
-verdict_explained lines journals gtids (Missing g) = missing_text gtids ++ next_text (next_there g None journals) lines
-verdict_explained lines journals gtids (Shared g h key) = key_explained g h key lines
-verdict_explained lines journals gtids (Reordered g h key) = key_explained g h key lines
-verdict_explained lines journals gtids (Concurrent g h key) = key_explained g h key lines
-verdict_explained lines journals gtids (NotClosed g h) = places_of (gtid_text g) Every lines ++ places_of (gtid_text h) Every lines
-verdict_explained lines journals gtids (DoesNotApply g fault) = row_fault_meaning fault ++ places_of (gtid_text g) (Numbered (row_fault_place fault).0) lines
-verdict_explained lines journals gtids Sound = []
+-- what explains a verdict on a bundle, with the other missing GTIDs
+abbrev pub verdict_explained : List (List ℕ) → BundleValue → Option Gtids → Verdict → List ℕ
+verdict_explained lines b gtids (Unequal g) = places_of (gtid_text g) Every lines ++ difference_under g b
+verdict_explained lines b gtids (Purged i purged) = previous_sets lines
+verdict_explained lines b gtids (Missing g) = missing_text gtids ++ next_text (next_there g None b.journals) lines
+verdict_explained lines b gtids (Shared g h key) = key_explained g h key lines
+verdict_explained lines b gtids (Reordered g h key) = key_explained g h key lines
+verdict_explained lines b gtids (Concurrent g h key) = key_explained g h key lines
+verdict_explained lines b gtids (NotClosed g h) = places_of (gtid_text g) Every lines ++ places_of (gtid_text h) Every lines
+verdict_explained lines b gtids (DoesNotApply g fault) = row_fault_meaning fault ++ places_of (gtid_text g) (Numbered (row_fault_place fault).0) lines
+verdict_explained lines b gtids Sound = inverted_text lines b.channels (inverted_pair b)
 
 -- ---- refusals
 

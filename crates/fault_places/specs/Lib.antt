@@ -1,5 +1,9 @@
 pub mod Lines
+pub mod Channels
 pub mod Places
 pub mod Next
 pub mod Due
+pub mod Differences
+pub mod Orders
+pub mod TwoOrders
 pub mod Explained

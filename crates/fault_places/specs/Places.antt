@@ -4,6 +4,7 @@ use Rattle.std.specs.Str.{bytes_eq}
 use Rattle.fault_places.specs.declared.standing.Standing.{Standing}
 use Rattle.fault_places.specs.declared.wanted.Wanted.{Wanted}
 use Rattle.fault_places.specs.declared.wanted.Wanted.TheVariants.{Every, OfTable, Numbered, Nothing}
+use Rattle.fault_places.specs.Channels.{label}
 use Rattle.fault_places.specs.Lines.{second_word, is_channel, is_previous, is_transaction, is_change, shorten}
 
 -- ---- the channel, entry and change of a line
@@ -32,7 +33,7 @@ channel_after name line = if is_channel line then second_word line else name
 
 -- the number and the name of its channel
 abbrev pub channel_text : List ℕ → Standing → List ℕ
-channel_text name s = codes "channel " ++ decimal (s.channels - 1) ++ codes " " ++ shorten name
+channel_text name s = label (s.channels - 1) name
 
 -- ` line <n>: ` and the line
 abbrev pub line_text : ℕ → List ℕ → List ℕ

@@ -1,14 +1,33 @@
-//! Where in its text a bundle has what a verdict or a refusal names.
+//! Where in its text a bundle has what a verdict or a refusal names, how the transactions that two journals have under one GTID differ,
+//! and which channels of a sound bundle preserve commit order but bring transactions in opposite orders (`two_orders_are_found`).
+//!
+//! Each text is one definition (`explain_verdict`, `explain_refusal`). Where a call fails, memory was refused.
+//!
+//! Cost: one pass over the lines for each GTID that is shown, and at most four passes over the entries to compare transactions. For each
+//! channel that preserves commit order there is one table of its entries' indexes, in which the entries of each later channel are looked up.
+//!
+//! `put`, `put_number`, `put_shown` and `put_line` append to a text, for commands that show lines of their input in the same form. After
+//! a failed allocation a part may have been appended.
 #![tactic(auto)]
 
+mod channels;
+mod differences;
 mod due;
+mod inverted_text;
+mod laws;
 mod lines;
 mod next_there;
+mod orders;
 mod places;
 mod refusal_text;
 mod standing;
+mod unequal;
+mod values;
 mod verdict_text;
 mod wanted;
 
+pub use laws::two_orders_are_found;
+pub use lines::{put, put_number, put_shown};
+pub use places::put_line;
 pub use refusal_text::explain_refusal;
 pub use verdict_text::explain_verdict;

@@ -98,14 +98,14 @@ pub(crate) fn is_change(line: &[u8]) -> bool
 }
 
 /// Appends a text.
-pub(crate) fn put(out: &mut Vec<u8>, text: &str) -> Result<(), AllocError>
+pub fn put(out: &mut Vec<u8>, text: &str) -> Result<(), AllocError>
     ensures { OnOk result (out.new.items ≡ out.old.items ++ text.now) }
 {
     out.extend_from_slice(text.as_bytes())
 }
 
 /// Appends a number in decimal digits.
-pub(crate) fn put_number(out: &mut Vec<u8>, number: usize) -> Result<(), AllocError>
+pub fn put_number(out: &mut Vec<u8>, number: usize) -> Result<(), AllocError>
     ensures { OnOk result (out.new.items ≡ out.old.items ++ decimal number) }
 {
     let mut buffer = Buffer::new();
@@ -146,7 +146,7 @@ fn put_bytes(out: &mut Vec<u8>, bytes: &[u8]) -> Result<(), AllocError>
 }
 
 /// Appends the first bytes of a line.
-pub(crate) fn put_shown(out: &mut Vec<u8>, line: &[u8]) -> Result<(), AllocError>
+pub fn put_shown(out: &mut Vec<u8>, line: &[u8]) -> Result<(), AllocError>
     ensures { OnOk result (out.new.items ≡ out.old.items ++ shorten line.now) }
 {
     if line.len() < MOST_SHOWN {

@@ -2,6 +2,7 @@
 ghost use Rattle.std.specs.Prelude.{◌≡◌, ◌++◌, OnOk, map, length, ◌<◌, ◌^◌};
 ghost use Rattle.fault_places.specs.Places.{channel_text, line_text, entry_text, change_text, report_entry, places_of, report_previous, previous_sets};
 
+use crate::channels::put_label;
 use crate::lines::{is_change, is_previous, put, put_number, put_shown};
 use crate::standing::{Standing, channel_after, is_named};
 use crate::wanted::Wanted;
@@ -11,14 +12,11 @@ use std::alloc::AllocError;
 fn put_channel(out: &mut Vec<u8>, name: &[u8], standing: Standing) -> Result<(), AllocError>
     ensures { OnOk result (out.new.items ≡ out.old.items ++ channel_text name.now standing) }
 {
-    put(out, "channel ")?;
-    put_number(out, standing.channels.saturating_sub(1))?;
-    put(out, " ")?;
-    put_shown(out, name)
+    put_label(out, standing.channels.saturating_sub(1), name)
 }
 
 /// A line, and its number from 1.
-pub(crate) fn put_line(out: &mut Vec<u8>, number: usize, line: &[u8]) -> Result<(), AllocError>
+pub fn put_line(out: &mut Vec<u8>, number: usize, line: &[u8]) -> Result<(), AllocError>
     ensures { OnOk result (out.new.items ≡ out.old.items ++ line_text number line.now) }
 {
     put(out, "line ")?;

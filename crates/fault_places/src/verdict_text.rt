@@ -7,17 +7,19 @@ ghost use Rattle.fault_places.specs.Lines.{lines_of};
 ghost use Rattle.fault_places.specs.Places.{places_of};
 ghost use Rattle.fault_places.specs.Explained.{is_of_key, columns_text, report_columns, columns_from, key_explained, missing_text, next_places, next_text, row_fault_meaning, verdict_explained};
 
+use crate::inverted_text::put_inverted;
 use crate::lines::{is_table, lines_of, put, put_number, put_shown, second_word, word_at};
 use crate::next_there::next_there;
 use crate::places::{put_line, put_places, put_previous_sets};
+use crate::unequal::put_difference;
 use crate::wanted::Wanted;
 use gtid_report::push_set;
 use gtid_set::GtidSet;
 use gtid_text::{Gtid, write_gtid};
 use itoa::Buffer;
-use journal::Journal;
 use rows::{Key, RowFault};
 use std::alloc::{AllocError, Global};
+use txn_journal::Bundle;
 use world::Verdict;
 
 /// The places of a GTID.
@@ -189,19 +191,22 @@ fn put_verdict(
     alloc: Global,
     out: &mut Vec<u8>,
     lines: &[&[u8]],
-    journals: &[Journal],
+    bundle: &Bundle,
     missing: &Option<GtidSet>,
     verdict: &Verdict,
 ) -> Result<(), AllocError>
     requires { length lines.now < 2 ^ 63 }
-    ensures { OnOk result (out.new.items ≡ out.old.items ++ verdict_explained (map (λ x. x.now) lines.now) journals.now missing.now verdict.now) }
+    ensures { OnOk result (out.new.items ≡ out.old.items ++ verdict_explained (map (λ x. x.now) lines.now) bundle.now missing.now verdict.now) }
 {
     match verdict {
-        Verdict::Unequal(gtid) => put_gtid(alloc, out, gtid, &Wanted::Every, lines),
+        Verdict::Unequal(gtid) => {
+            put_gtid(alloc, out, gtid, &Wanted::Every, lines)?;
+            put_difference(alloc, out, gtid, bundle)
+        }
         Verdict::Purged(_, _) => put_previous_sets(out, lines),
         Verdict::Missing(gtid) => {
             put_missing(alloc, out, missing)?;
-            put_next(alloc, out, &next_there(gtid, journals), lines)
+            put_next(alloc, out, &next_there(gtid, bundle.journals()), lines)
         }
         Verdict::Shared(a, b, key)
         | Verdict::Reordered(a, b, key)
@@ -211,25 +216,27 @@ fn put_verdict(
             put_gtid(alloc, out, b, &Wanted::Every, lines)
         }
         Verdict::DoesNotApply(gtid, fault) => put_row_fault(alloc, out, gtid, fault, lines),
-        Verdict::Sound => Ok(()),
+        Verdict::Sound => put_inverted(alloc, out, bundle, lines),
     }
 }
 
-/// What explains a verdict on the journals of a bundle, whose text these bytes are: lines, each after two blanks and ended by a line
-/// feed. For each GTID that the verdict names there is each transaction, with its channel and its entry, counted from 0, and its line,
-/// counted from 1; after it its changes: for a shared key those in the key's table, for a row fault the one that has it. For other
-/// missing GTIDs, where they are given, there is their number and their set. The words are our own.
+/// What explains a verdict on a bundle, whose text these bytes are: lines, each after two blanks and ended by a line feed. For each GTID
+/// that the verdict names there is each transaction, with its channel and its entry, counted from 0, and its line, counted from 1; after
+/// it its changes: for a shared key those in the key's table, for a row fault the one that has it. If two transactions have one GTID, the
+/// first difference between them follows: the change, the image and the column, counted from 0, and both values. For other missing GTIDs,
+/// where they are given, there is their number and their set. If the bundle is sound but two channels that preserve commit order bring two
+/// transactions in opposite orders, there are the places of both. The words are our own.
 pub fn explain_verdict(
     alloc: Global,
     bytes: &[u8],
-    journals: &[Journal],
+    bundle: &Bundle,
     missing: &Option<GtidSet>,
     verdict: &Verdict,
 ) -> Result<Vec<u8>, AllocError>
-    ensures { IfOk result (λ text. text.items ≡ verdict_explained (lines_of bytes.now) journals.now missing.now verdict.now) }
+    ensures { IfOk result (λ text. text.items ≡ verdict_explained (lines_of bytes.now) bundle.now missing.now verdict.now) }
 {
     let mut out = Vec::new(alloc);
     let lines = lines_of(alloc, bytes)?;
-    put_verdict(alloc, &mut out, &lines, journals, missing, verdict)?;
+    put_verdict(alloc, &mut out, &lines, bundle, missing, verdict)?;
     Ok(out)
 }
