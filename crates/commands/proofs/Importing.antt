@@ -1,20 +1,35 @@
--- What is written for a text that is imported.
-use Rattle.std.proofs.Common.{Bool, ℕ, List, refl, inl, inr}
-use Rattle.std.specs.Prelude.{Result, Ok, Err, IfOk}
+-- What is written for a text that is imported, and for one that is refused.
+use Rattle.std.proofs.Common.{◌≡◌, Bool, ℕ, List, refl, inl, inr, subst, sym}
+use Rattle.std.specs.Prelude.{Result, Ok, Err, IfOk, OnOk}
 use Rattle.txn_journal.specs.BundleStates.{BundleValue}
 use Rattle.binlog_bundle.specs.Bundles.{ImportsBundle}
 use Rattle.binlog_bundle.specs.Refused.{IsNoBundle}
 use Rattle.binlog_bundle.specs.declared.fault.BundleFault.{BundleFault}
-use Rattle.commands.specs.Printed.{Holds, HoldsOne}
+use Rattle.binlog_bundle.specs.declared.grants.Grants.{Grants}
+use Rattle.commands.specs.Printed.{Holds}
 use Rattle.commands.specs.Bundles.{upgrade_answer}
-use Rattle.commands.specs.Imports.{IsImportAnswer, import_refused}
-use Rattle.commands.specs.declared.answer.Answer.{Answer}
+use Rattle.commands.specs.Reports.{HoldsReport}
+use Rattle.commands.specs.Imports.{Imports, HasLine, bundle_refused, refusal_notes, silent_refusal}
 use Rattle.commands.specs.declared.edge.RunFault.{RunFault}
+use Rattle.commands.specs.declared.report.Report.{Report}
 
-pub bundle_told : (bytes : Bool) (text : List ℕ) (b : BundleValue) (r : Result Answer RunFault) → ImportsBundle bytes text b → IfOk r (λ answer. Holds answer (upgrade_answer b)) → IfOk r (HoldsOne (IsImportAnswer bytes) text)
-bundle_told bytes text b (Ok answer) imports held = (upgrade_answer b, inl (record { bundle = b; imports = imports; answers = refl }), held)
-bundle_told bytes text b (Err fault) imports held = tt
+-- the answer to the text of a bundle
+pub imported_so : (grants : Grants) (is_explained : Bool) (text : List ℕ) (b : BundleValue) (notes : List ℕ) (r : Result Report RunFault) → ImportsBundle grants text b notes
+    → IfOk r (λ held. Holds held.answer (upgrade_answer b)) → IfOk r (λ held. held.notes.items ≡ notes) → IfOk r (HoldsReport (Imports grants is_explained) text)
+imported_so grants is_explained text b notes (Ok held) imports holds e = record {
+  printed = upgrade_answer b;
+  reported = inl (record { bundle = b; imports = subst (ImportsBundle grants text b) (sym e) imports; answers = refl });
+  holds = holds;
+}
+imported_so grants is_explained text b notes (Err f) imports holds e = tt
 
-pub refused_told : (bytes : Bool) (text : List ℕ) (fault : BundleFault) (r : Result Answer RunFault) → IsNoBundle bytes fault text → IfOk r (λ answer. Holds answer (import_refused fault)) → IfOk r (HoldsOne (IsImportAnswer bytes) text)
-refused_told bytes text fault (Ok answer) none held = (import_refused fault, inr (record { fault = fault; none = none; answers = refl }), held)
-refused_told bytes text fault (Err f) none held = tt
+-- the answer to a text that is refused
+pub refused_so : (grants : Grants) (is_explained : Bool) (text : List ℕ) (fault : BundleFault) (r : Result Report RunFault) → IsNoBundle grants fault text
+    → IfOk r (λ held. Holds held.answer silent_refusal) → IfOk r (λ held. held.notes.items ≡ refusal_notes is_explained text (bundle_refused fault)) → OnOk r (HasLine (bundle_refused fault))
+    → IfOk r (HoldsReport (Imports grants is_explained) text)
+refused_so grants is_explained text fault (Ok held) none holds e line = record {
+  printed = silent_refusal;
+  reported = inr (record { fault = fault; none = none; line = line; silent = refl; noted = e });
+  holds = holds;
+}
+refused_so grants is_explained text fault (Err f) none holds e line = tt

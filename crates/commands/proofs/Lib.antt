@@ -10,3 +10,6 @@ pub mod Unsound
 pub mod ReadBlocks
 pub mod RowLines
 pub mod InPieces
+pub mod FoundTexts
+pub mod LinesPassed
+pub mod Appended

@@ -1,6 +1,5 @@
 -- What `audit --explain` shows beside the verdict.
 use Rattle.std.specs.Prelude.{◌≡◌, ◌⊎◌, ℕ, List, Option, Some, None, Result, Ok, Err}
-use Rattle.std.specs.Io.KnownBytes.{Appends}
 use Rattle.gtid_set.specs.Sets.{Gtids}
 use Rattle.gtid_set.specs.declared.fault.SetFault.TheVariants.{SourcesFull, PoolFull}
 use Rattle.world.specs.declared.verdict.Verdict.{Verdict}
@@ -14,13 +13,10 @@ use Rattle.serving.specs.Verdicts.{verdict_over}
 use Rattle.serving.specs.Listing.{faults_over, IsFaultsFault}
 use Rattle.fault_places.specs.Lines.{lines_of}
 use Rattle.fault_places.specs.Explained.{verdict_explained, refusal_explained}
-use Rattle.commands.specs.Edge.{Output, StreamsValue, Begins, one_more, IsReadFault}
-use Rattle.commands.specs.Printed.{Printed, Holds, refused_with, to_all, IsDone, IsCutOff}
+use Rattle.commands.specs.Printed.{Printed, Holds, refused_with}
 use Rattle.commands.specs.Bundles.{Audits, audit_answer, bundle_in}
-use Rattle.commands.specs.declared.edge.Outcome.{Outcome}
-use Rattle.commands.specs.declared.edge.RunFault.{RunFault}
-use Rattle.commands.specs.declared.edge.RunFault.TheVariants.{Memory, Read, Write}
-use Rattle.commands.specs.declared.explain_command.Explained.{Explained}
+use Rattle.commands.specs.Reports.{HoldsReport}
+use Rattle.commands.specs.declared.report.Report.{Report}
 
 -- ---- what is shown
 
@@ -37,7 +33,7 @@ AreMissingBeside b v gtids = gtids ≡ None
 -- these lines explain the verdict on a bundle that has this text
 abbrev pub ExplainsBundle : Order → List ℕ → BundleValue → List ℕ → Type 0
 ExplainsBundle order bytes b notes =
-    (missing : Option Gtids) × AreMissingBeside b (verdict_over order b) missing × (notes ≡ verdict_explained (lines_of bytes) b.journals missing (verdict_over order b))
+    (missing : Option Gtids) × AreMissingBeside b (verdict_over order b) missing × (notes ≡ verdict_explained (lines_of bytes) b missing (verdict_over order b))
 
 -- it is the verdict on the bundle that the bytes parse as, and these lines explain it
 pub record IsVerdictExplained (order : Order) (bytes : List ℕ) (printed : Printed) (notes : List ℕ) : Type 0 where
@@ -59,40 +55,14 @@ pub record Explains (order : Order) (bytes : List ℕ) (printed : Printed) (note
 
 -- ---- results
 
--- the result holds an answer, and what explains it
-pub record HoldsExplained (order : Order) (bytes : List ℕ) (held : Explained) : Type 0 where
-  pub printed : Printed
-  pub explains : Explains order bytes printed (held.notes.items)
-  pub holds : Holds held.answer printed
-
--- the result holds both, or the answer is the line of this refusal; or memory was refused
-abbrev pub FindsExplained : Order → List ℕ → Result Explained Fault → Type 0
-FindsExplained order bytes (Ok held) = HoldsExplained order bytes held
+-- the result holds the answer and what explains it, or the answer is the line of this refusal; or memory was refused
+abbrev pub FindsExplained : Order → List ℕ → Result Report Fault → Type 0
+FindsExplained order bytes (Ok held) = HoldsReport (Explains order) bytes held
 FindsExplained order bytes (Err (fault.Refused r)) = Audits order bytes (refused_with r)
 FindsExplained order bytes (Err fault.Memory) = Unit {0}
 
 -- an answer is taken as it is, and for a refusal there is its line with what explains it
-abbrev pub SettlesExplained : List ℕ → Result Explained Fault → Explained → Type 0
+abbrev pub SettlesExplained : List ℕ → Result Report Fault → Report → Type 0
 SettlesExplained bytes (Ok found) held = held ≡ found
 SettlesExplained bytes (Err (fault.Refused r)) held = Holds held.answer (refused_with r) × (held.notes.items ≡ refusal_explained (lines_of bytes) r)
 SettlesExplained bytes (Err fault.Memory) held = ⊥
-
--- ---- what is written
-
--- the lines that explain the answer were written after what was there, and nothing else
-abbrev pub IsExplained : {E : Type 0} → Order → Output E → Output E → List ℕ → Printed → Type 0
-IsExplained order old new bytes printed = (notes : List ℕ) × Explains order bytes printed notes × Appends old.written new.written notes
-
--- a prefix of them was written, and the writer failed once more
-abbrev pub IsPartlyExplained : {E : Type 0} → Order → Output E → Output E → List ℕ → Printed → Type 0
-IsPartlyExplained order old new bytes printed = (notes : List ℕ) × Explains order bytes printed notes × Begins old.written new.written notes × (new.failed ≡ one_more old.failed)
-
--- the answer was written, and what explains it only in part
-abbrev pub IsHalfExplained : {S W E : Type 0} → Order → Output E → Output E → StreamsValue S W → StreamsValue S W → Type 0
-IsHalfExplained order old new before after = (outcome : Outcome) × IsDone (to_all (IsPartlyExplained order old new)) before after outcome
-
--- Memory was refused, or reading failed, and nothing was written; or writing failed: of the answer, and then nothing explains it, or of what explains it.
-abbrev pub HasNotExplained : {S W E : Type 0} → Order → Output E → Output E → StreamsValue S W → StreamsValue S W → RunFault → Type 0
-HasNotExplained order old new before after Memory = (after.output ≡ before.output) × (new ≡ old)
-HasNotExplained order old new before after Read = (after.output ≡ before.output) × IsReadFault before.input after.input × (new ≡ old)
-HasNotExplained order old new before after Write = (IsCutOff (to_all (Audits order)) before after × (new ≡ old)) ⊎ IsHalfExplained order old new before after

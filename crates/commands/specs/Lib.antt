@@ -3,6 +3,8 @@ pub mod SetCommand
 pub mod Printed
 pub mod Applying
 pub mod Bundles
+pub mod Reports
+pub mod LogPlaces
 pub mod Imports
 pub mod Positions
 pub mod States

@@ -1,19 +1,19 @@
 //! The command `audit --explain`.
-ghost use Rattle.std.specs.Prelude.{◌≡◌, IfOk, IfErr, OnOk, OnErr};
-ghost use Rattle.std.specs.Io.KnownBytes.{Appends};
+ghost use Rattle.std.specs.Prelude.{◌≡◌, IfOk, IfErr};
 ghost use Rattle.serving.specs.Faults.{IsVerdictFault};
 ghost use Rattle.serving.specs.Servable.{IsServable};
 ghost use Rattle.fault_places.specs.Lines.{lines_of};
 ghost use Rattle.fault_places.specs.Explained.{refusal_explained};
-ghost use Rattle.commands.specs.Edge.{output_of, one_more, Begins};
-ghost use Rattle.commands.specs.Printed.{Holds, GivesUp, refused_with, to_all, IsDone};
+ghost use Rattle.commands.specs.Printed.{Holds, GivesUp, refused_with};
 ghost use Rattle.commands.specs.Bundles.{ParsesAsBundle, audit_answer, bundle_in};
 ghost use Rattle.commands.specs.Texts.{IsTextOf};
-ghost use Rattle.commands.specs.Explaining.{AreMissingBeside, ExplainsBundle, HoldsExplained, FindsExplained, SettlesExplained, IsExplained, HasNotExplained};
+ghost use Rattle.commands.specs.Reports.{HoldsReport, HasReported, HasNotReported};
+ghost use Rattle.commands.specs.Explaining.{AreMissingBeside, Explains, ExplainsBundle, FindsExplained, SettlesExplained};
 
 use crate::answer::{Answer, refusal_answer};
 use crate::audit_command::verdict_answer;
 use crate::edge::{Outcome, RunFault, Sink, Source};
+use crate::report::{Report, Reporter, run_report};
 use crate::streams::Streams;
 use fault_places::{explain_refusal, explain_verdict};
 use gtid_report::{Fault, Refusal};
@@ -23,13 +23,6 @@ use std::alloc::{AllocError, Global};
 use std::mem;
 use txn_journal::{Bundle, JournalFault, decode_bundle};
 use world::Verdict;
-
-/// An answer, and the lines that explain it.
-#[derive(Drop)]
-pub(crate) struct Explained {
-    pub(crate) answer: Answer,
-    pub(crate) notes: Vec<u8>,
-}
 
 /// The GTIDs that are missing beside the one of the verdict.
 fn missing_beside(
@@ -56,7 +49,7 @@ fn explain_bundle(
     order: Order,
     bytes: &[u8],
     bundle: &Bundle,
-) -> Result<Explained, Fault>
+) -> Result<Report, Fault>
     requires { IsServable bundle.now }
     ensures answer { IfOk result (λ held. Holds held.answer (audit_answer order bundle.now)) }
     ensures notes { IfOk result (λ held. ExplainsBundle order bytes.now bundle.now held.notes.items) }
@@ -64,8 +57,8 @@ fn explain_bundle(
 {
     let verdict = verdict_over(alloc, bundle, order)?;
     let missing = missing_beside(alloc, bundle, &verdict)?;
-    let notes = explain_verdict(alloc, bytes, bundle.journals(), &missing, &verdict)?;
-    Ok(Explained {
+    let notes = explain_verdict(alloc, bytes, bundle, &missing, &verdict)?;
+    Ok(Report {
         answer: verdict_answer(alloc, &verdict)?,
         notes,
     })
@@ -80,7 +73,7 @@ fn decode_whole(alloc: Global, bytes: &[u8]) -> Result<Bundle, JournalFault>
 }
 
 /// The answer to a bundle's bytes, with what explains it; or the fault of the bytes. The bundle is left to the end of the process.
-fn explain_found(alloc: Global, order: Order, bytes: &[u8]) -> Result<Explained, Fault>
+fn explain_found(alloc: Global, order: Order, bytes: &[u8]) -> Result<Report, Fault>
     ensures { FindsExplained order bytes.now result }
 {
     match decode_whole(alloc, bytes) {
@@ -94,12 +87,12 @@ fn explain_found(alloc: Global, order: Order, bytes: &[u8]) -> Result<Explained,
 }
 
 /// The line of a refusal, and what explains it.
-fn explain_refused(alloc: Global, bytes: &[u8], refusal: &Refusal) -> Result<Explained, AllocError>
+fn explain_refused(alloc: Global, bytes: &[u8], refusal: &Refusal) -> Result<Report, AllocError>
     ensures answer { IfOk result (λ held. Holds held.answer (refused_with refusal.now)) }
     ensures notes { IfOk result (λ held. held.notes.items ≡ refusal_explained (lines_of bytes.now) refusal.now) }
 {
     let notes = explain_refusal(alloc, bytes, refusal)?;
-    Ok(Explained {
+    Ok(Report {
         answer: refusal_answer(alloc, refusal)?,
         notes,
     })
@@ -109,8 +102,8 @@ fn explain_refused(alloc: Global, bytes: &[u8], refusal: &Refusal) -> Result<Exp
 fn settle_explained(
     alloc: Global,
     bytes: &[u8],
-    found: Result<Explained, Fault>,
-) -> Result<Explained, RunFault>
+    found: Result<Report, Fault>,
+) -> Result<Report, RunFault>
     ensures ok { IfOk result (SettlesExplained bytes.now found) }
     ensures memory { IfErr result (λ f. f ≡ RunFault.Memory) }
 {
@@ -125,23 +118,26 @@ fn settle_explained(
 }
 
 /// The answer to bytes, and what explains it.
-fn explain_bytes(alloc: Global, order: Order, bytes: &[u8]) -> Result<Explained, RunFault>
-    ensures ok { IfOk result (HoldsExplained order bytes.now) }
+fn explain_bytes(alloc: Global, order: Order, bytes: &[u8]) -> Result<Report, RunFault>
+    ensures ok { IfOk result (HoldsReport (Explains order) bytes.now) }
     ensures memory { IfErr result (λ f. f ≡ RunFault.Memory) }
 {
     settle_explained(alloc, bytes, explain_found(alloc, order, bytes))
 }
 
-/// Writes what explains an answer.
-fn report<E: Sink>(errors: &mut E, notes: &[u8]) -> Result<(), RunFault>
-    ensures done { OnOk result (Appends (E.written errors.old) (E.written errors.new) notes.now) }
-    ensures write { IfErr result (λ f. f ≡ RunFault.Write) }
-    ensures begins { OnErr result (Begins (E.written errors.old) (E.written errors.new) notes.now) }
-    ensures counted { OnErr result (E.failed errors.new ≡ one_more (E.failed errors.old)) }
-{
-    match errors.write(notes) {
-        Ok(()) => Ok(()),
-        Err(_) => Err(RunFault::Write),
+/// The audit that asks for an order, with what explains its answer.
+#[derive(Drop)]
+struct ExplainedAudit {
+    order: Order,
+}
+
+impl Reporter for ExplainedAudit {
+    ghost use Rattle.commands.specs.Explaining.{Explains};
+
+    ghost reports = { λ a. Explains a.order };
+
+    fn report(&self, alloc: Global, bytes: &[u8]) -> Result<Report, RunFault> {
+        explain_bytes(alloc, self.order, bytes)
     }
 }
 
@@ -154,12 +150,10 @@ pub fn run_explain<S: Source, W: Sink, E: Sink>(
     streams: &mut Streams<S, W>,
     errors: &mut E,
 ) -> Result<Outcome, RunFault>
-    ensures done { let old = output_of E.written E.failed errors.old in let new = output_of E.written E.failed errors.new in IfOk result (IsDone (to_all (IsExplained order old new)) streams.old streams.new) }
-    ensures failed { let old = output_of E.written E.failed errors.old in let new = output_of E.written E.failed errors.new in IfErr result (HasNotExplained order old new streams.old streams.new) }
+    ensures done { IfOk result
+        (HasReported E.written E.failed (Explains order) errors.old errors.new streams.old streams.new) }
+    ensures failed { IfErr result
+        (HasNotReported E.written E.failed (Explains order) errors.old errors.new streams.old streams.new) }
 {
-    let bytes = streams.read_all(alloc)?;
-    let held = explain_bytes(alloc, order, &bytes)?;
-    let outcome = streams.send(&held.answer)?;
-    report(errors, &held.notes)?;
-    Ok(outcome)
+    run_report(alloc, &ExplainedAudit { order }, streams, errors)
 }

@@ -1,15 +1,18 @@
 //! The command `import`.
-ghost use Rattle.std.specs.Prelude.{◌≡◌, IfOk, IfErr};
-ghost use Rattle.commands.specs.Printed.{Holds, HoldsOne, to_all, IsDone, HasFailed};
+ghost use Rattle.std.specs.Prelude.{◌≡◌, IfOk, IfErr, OnOk};
+ghost use Rattle.commands.specs.Printed.{Holds};
 ghost use Rattle.commands.specs.Bundles.{upgrade_answer};
-ghost use Rattle.commands.specs.Imports.{IsImportAnswer};
+ghost use Rattle.commands.specs.Reports.{HoldsReport, HasReported, HasNotReported};
+ghost use Rattle.commands.specs.Imports.{Imports, HasLine, bundle_refused, refusal_notes, silent_refusal};
 
 use crate::answer::Answer;
 use crate::edge::{Outcome, RunFault, Sink, Source};
-use crate::import_fault::import_refused;
+use crate::import_fault::bundle_refused;
+use crate::import_refusal::refusal_notes;
 use crate::pieces::Text;
+use crate::report::{Report, Reporter, run_report};
 use crate::streams::Streams;
-use binlog_bundle::import_bundle;
+use binlog_bundle::{BundleFault, Grants, ImportedBundle, import_bundle};
 use std::alloc::Global;
 use std::mem;
 use txn_journal::{Bundle, bundle_text_v2};
@@ -28,32 +31,97 @@ fn import_found(alloc: Global, bundle: &Bundle) -> Result<Answer, RunFault>
     }
 }
 
-/// What is written for a text. The bundle is left to the end of the process.
-fn import_answer(alloc: Global, bytes: bool, text: &[u8]) -> Result<Answer, RunFault>
-    ensures ok { IfOk result (HoldsOne (IsImportAnswer bytes) text.now) }
+/// The text of a bundle, and what a verdict on it won't see. The bundle is left to the end of the process.
+fn report_imported(alloc: Global, imported: ImportedBundle) -> Result<Report, RunFault>
+    ensures answer { IfOk result (λ held. Holds held.answer (upgrade_answer imported.bundle)) }
+    ensures notes { IfOk result (λ held. held.notes.items ≡ imported.notes.items) }
     ensures memory { IfErr result (λ f. f ≡ RunFault.Memory) }
 {
-    match import_bundle(alloc, bytes, text) {
-        Ok(bundle) => {
-            let answer = import_found(alloc, &bundle);
-            mem::forget(bundle);
-            answer
-        }
-        Err(fault) => import_refused(alloc, fault),
+    let ImportedBundle { bundle, notes } = imported;
+    let answer = import_found(alloc, &bundle);
+    mem::forget(bundle);
+    Ok(Report {
+        answer: answer?,
+        notes,
+    })
+}
+
+/// The line of a refusal of a text, and, where that is asked for, what explains it.
+fn report_refused(
+    alloc: Global,
+    is_explained: bool,
+    text: &[u8],
+    fault: BundleFault,
+) -> Result<Report, RunFault>
+    ensures answer { IfOk result (λ held. Holds held.answer silent_refusal) }
+    ensures notes { IfOk result (λ held. held.notes.items ≡ refusal_notes is_explained text.now (bundle_refused fault)) }
+    ensures line { OnOk result (HasLine (bundle_refused fault)) }
+    ensures memory { IfErr result (λ f. f ≡ RunFault.Memory) }
+{
+    let Ok(notes) = refusal_notes(alloc, is_explained, text, &bundle_refused(fault)) else {
+        return Err(RunFault::Memory);
+    };
+    Ok(Report {
+        answer: Answer {
+            outcome: Outcome::Refused,
+            text: Text::of(alloc, String::new(alloc)),
+        },
+        notes,
+    })
+}
+
+/// What is written for a text.
+fn report_import(
+    alloc: Global,
+    grants: Grants,
+    is_explained: bool,
+    text: &[u8],
+) -> Result<Report, RunFault>
+    ensures ok { IfOk result (HoldsReport (Imports grants is_explained) text.now) }
+    ensures memory { IfErr result (λ f. f ≡ RunFault.Memory) }
+{
+    match import_bundle(alloc, grants, text) {
+        Ok(imported) => report_imported(alloc, imported),
+        Err(fault) => report_refused(alloc, is_explained, text, fault),
     }
 }
 
-/// Reads a bundle whose journals are the texts of logs, and writes its text by version 2 of the format, or the line of its
-/// refusal, and nothing else. `bytes` takes keys that the server compares otherwise than their bytes.
-pub fn run_import<S: Source, W: Sink>(
+/// The import with what an operator grants, and whether a refusal is explained.
+#[derive(Drop)]
+struct Import {
+    grants: Grants,
+    is_explained: bool,
+}
+
+impl Reporter for Import {
+    ghost use Rattle.commands.specs.Imports.{Imports};
+
+    ghost reports = { λ i. Imports i.grants i.is_explained };
+
+    fn report(&self, alloc: Global, bytes: &[u8]) -> Result<Report, RunFault> {
+        report_import(alloc, self.grants, self.is_explained, bytes)
+    }
+}
+
+/// Reads a bundle whose journals are the texts of logs. Where it is imported, its text by version 2 of the format is written to the
+/// streams, and to `errors` a line for each thing that a verdict on it won't see, by what the operator grants. Where it is refused, nothing
+/// is written to the streams, and to `errors` the line of the refusal; where `is_explained`, also the line that it names, with the
+/// transaction, the end of the event and the file.
+pub fn run_import<S: Source, W: Sink, E: Sink>(
     alloc: Global,
-    bytes: bool,
+    grants: Grants,
+    is_explained: bool,
     streams: &mut Streams<S, W>,
+    errors: &mut E,
 ) -> Result<Outcome, RunFault>
-    ensures done { IfOk result (IsDone (to_all (IsImportAnswer bytes)) streams.old streams.new) }
-    ensures failed { IfErr result (HasFailed (to_all (IsImportAnswer bytes)) streams.old streams.new) }
+    ensures done { IfOk result
+        (HasReported E.written E.failed (Imports grants is_explained) errors.old errors.new streams.old streams.new) }
+    ensures failed { IfErr result
+        (HasNotReported E.written E.failed (Imports grants is_explained) errors.old errors.new streams.old streams.new) }
 {
-    let text = streams.read_all(alloc)?;
-    let answer = import_answer(alloc, bytes, &text)?;
-    streams.send(&answer)
+    let import = Import {
+        grants,
+        is_explained,
+    };
+    run_report(alloc, &import, streams, errors)
 }

@@ -1,30 +1,32 @@
-//! The lines of refusals of `import`.
-ghost use Rattle.std.specs.Prelude.{◌≡◌, IfOk, IfErr, string_bytes};
-ghost use Rattle.commands.specs.Printed.{Holds};
-ghost use Rattle.commands.specs.Imports.{cause_word, text_refused, entry_refused, log_refused, cause_refused, journal_refused, bundle_refused, import_line, printed_refusal, import_refused};
+//! Why `import` refuses a text.
+ghost use Rattle.std.specs.Prelude.{◌≡◌};
+ghost use Rattle.commands.specs.Imports.{text_refused, entry_refused, log_refused, cause_refused, journal_refused, bundle_refused, line_named};
 
-use crate::answer::{Answer, refusal_answer, with_line_feed};
-use crate::edge::{Outcome, RunFault};
-use crate::pieces::Text;
 use binlog_bundle::BundleFault;
-use binlog_entries::{EntryRefusal as LineRefusal, ImportFault, LogFault, ReadFault};
-use gtid_report::{Fault, Refusal, push_number};
-use std::alloc::{AllocError, Global};
+use binlog_entries::{EntryRefusal, ImportFault, Limit, LogFault, ReadFault};
+use gtid_report::{Fault, Refusal};
+use gtid_set::GtidSet;
+use gtid_text::Gtid;
+use rows::Name;
 use txn_journal::{Cause, JournalFault};
 
-/// What is wrong with a line of a log, or with the log after the line of a channel.
-#[derive(Clone, Copy, Debug, PartialEq, Eq, Drop)]
+/// What is wrong with a line of a log, or with a channel or its log.
+#[derive(Drop)]
 pub(crate) enum ImportCause {
     /// The line is refused.
-    Line(LineRefusal),
+    Line(EntryRefusal),
     /// The log ends before its last line.
     Unfinished,
-    /// A key is not compared by its bytes.
-    Key,
-    /// An entry passes a limit.
+    /// A table, and a column of a key of it, counted from 0, that the server compares otherwise than by its bytes.
+    Key(Name, usize),
+    /// The entry of this GTID passes a limit.
+    TooLarge(Gtid, Limit),
+    /// An entry passes a limit of the format.
     Limit,
     /// The tables don't take an entry.
     Schema,
+    /// It isn't known what the channel's server had executed.
+    Unknown,
 }
 
 /// Why a text is refused.
@@ -32,20 +34,12 @@ pub(crate) enum ImportCause {
 pub(crate) enum Refused {
     /// For a reason for which any text may be refused.
     Known(Fault),
-    /// A line of a log is refused, or the log after the line of a channel.
+    /// A line of a log is refused, or a channel at its line.
     At(u64, ImportCause),
-}
-
-fn cause_word(cause: ImportCause) -> &'static str
-    ensures { result.now ≡ cause_word cause }
-{
-    match cause {
-        ImportCause::Line(refusal) => refusal.word(),
-        ImportCause::Unfinished => "unfinished",
-        ImportCause::Key => "key",
-        ImportCause::Limit => "limit",
-        ImportCause::Schema => "schema",
-    }
+    /// The server of this channel had executed these GTIDs, which are missing.
+    Executed(Name, GtidSet),
+    /// The head names what a bundle can't hold.
+    Unsupported(Vec<u8>),
 }
 
 fn text_refused(channel: u64, fault: ReadFault) -> Refused
@@ -70,7 +64,7 @@ fn entry_refused(channel: u64, fault: LogFault) -> Refused
     match fault {
         LogFault::Set(fault) => Refused::Known(Fault::from(fault)),
         LogFault::Twice(gtid) => Refused::Known(Fault::Refused(Refusal::Twice(gtid))),
-        LogFault::TooLarge(_) => Refused::At(channel, ImportCause::Limit),
+        LogFault::TooLarge(gtid, limit) => Refused::At(channel, ImportCause::TooLarge(gtid, limit)),
     }
 }
 
@@ -79,7 +73,7 @@ fn log_refused(channel: u64, fault: ImportFault) -> Refused
 {
     match fault {
         ImportFault::Text(fault) => text_refused(channel, fault),
-        ImportFault::Key(_) => Refused::At(channel, ImportCause::Key),
+        ImportFault::Key(table, column) => Refused::At(channel, ImportCause::Key(table, column)),
         ImportFault::Log(fault) => entry_refused(channel, fault),
     }
 }
@@ -110,7 +104,8 @@ fn journal_refused(fault: JournalFault) -> Refused
     }
 }
 
-fn bundle_refused(fault: BundleFault) -> Refused
+/// Why a text is refused with this fault.
+pub(crate) fn bundle_refused(fault: BundleFault) -> Refused
     ensures { result ≡ bundle_refused fault }
 {
     match fault {
@@ -118,53 +113,24 @@ fn bundle_refused(fault: BundleFault) -> Refused
         BundleFault::Log { line, fault } => log_refused(line, fault),
         BundleFault::Table { line, at } => Refused::At(
             line.saturating_add(at),
-            ImportCause::Line(LineRefusal::Table),
+            ImportCause::Line(EntryRefusal::Table),
         ),
         BundleFault::Journal(fault) => journal_refused(fault),
+        BundleFault::Unsupported(what) => Refused::Unsupported(what),
+        BundleFault::Unknown { line } => Refused::At(line, ImportCause::Unknown),
+        BundleFault::Executed { channel, missing } => Refused::Executed(channel, missing),
     }
 }
 
-/// The line of a refusal, without the line feed.
-fn import_line(alloc: Global, line: u64, cause: ImportCause) -> Result<String, AllocError>
-    ensures { IfOk result (λ text. string_bytes text ≡ import_line line cause) }
-{
-    let mut text = String::new(alloc);
-    text.push_str("refused import line ")?;
-    push_number(&mut text, line)?;
-    text.push_str(" ")?;
-    text.push_str(cause_word(cause))?;
-    Ok(text)
-}
-
-/// The answer that a refusal of a line is.
-fn line_answer(alloc: Global, line: u64, cause: ImportCause) -> Result<Answer, AllocError>
-    ensures { IfOk result (λ answer. Holds answer (printed_refusal (Refused.At line cause))) }
-{
-    let text = import_line(alloc, line, cause)?;
-    Ok(Answer {
-        outcome: Outcome::Refused,
-        text: Text::of(alloc, with_line_feed(text)?),
-    })
-}
-
-/// The answer that a refusal is, where memory allows.
-fn refused_answer(alloc: Global, refused: Refused) -> Result<Answer, AllocError>
-    ensures { IfOk result (λ answer. Holds answer (printed_refusal refused)) }
+/// The line that a refusal names.
+pub(crate) fn line_named(refused: &Refused) -> Option<u64>
+    ensures { result ≡ line_named refused.now }
 {
     match refused {
-        Refused::Known(Fault::Memory) => Err(AllocError),
-        Refused::Known(Fault::Refused(refusal)) => refusal_answer(alloc, &refusal),
-        Refused::At(line, cause) => line_answer(alloc, line, cause),
-    }
-}
-
-/// The answer to a text that is refused.
-pub(crate) fn import_refused(alloc: Global, fault: BundleFault) -> Result<Answer, RunFault>
-    ensures ok { IfOk result (λ answer. Holds answer (import_refused fault)) }
-    ensures memory { IfErr result (λ f. f ≡ RunFault.Memory) }
-{
-    match refused_answer(alloc, bundle_refused(fault)) {
-        Ok(answer) => Ok(answer),
-        Err(_) => Err(RunFault::Memory),
+        Refused::At(line, _) => Some(*line),
+        Refused::Known(Fault::Refused(Refusal::Line(line, _))) => Some(*line),
+        Refused::Known(Fault::Refused(Refusal::Truncated(line))) => Some(*line),
+        Refused::Known(Fault::Refused(Refusal::Version(line))) => Some(*line),
+        _ => None,
     }
 }

@@ -1,11 +1,15 @@
-//! The commands as a library, over any reader and writer: `run_set`, `run_position`, `run_audit`, `run_list`, `run_explain`, `run_upgrade`, `apply_bundle`,
-//! `run_version`; and `apply_journals`, which applies journals by workers on threads.
+//! The commands as a library, over any reader and writer: `run_set`, `run_position`, `run_audit`, `run_list`, `run_explain`, `run_upgrade`,
+//! `run_states`, `run_import`, `apply_bundle`, `run_version`; and `apply_journals`, which applies journals by workers on threads.
 //!
 //! What a contract sees: of `Streams` the reader with the bytes that it has left and its failed calls (`Input`), and the writer with the
 //! bytes that it holds and its failed calls (`Output`), each where it is known.
 //!
 //! Each command has two clauses. `done`: what was read is what the answer is for, and what was written is the answer and nothing else.
 //! `failed`: where memory was refused or a read failed nothing was written; where a write failed, a prefix of the answer.
+//!
+//! `run_explain` and `run_import` take a second writer, for notes: after the answer has been written, `run_explain` writes what explains it, and
+//! `run_import` what a verdict on the bundle won't see, or, where the answer is empty, the line of the refusal (`HasReported`, `HasNotReported`).
+//! What is known at a refused line of a log is a fold over the lines before it (`place_at`).
 //!
 //! The answer of `apply` and `audit` is a function of the bytes: where they are no bundle, the refusal that `decode_bundle` is proved to
 //! give; where they are one, the verdict, or, where that is Sound, the union of all journals with the rows that it denotes (`rows_of`);
@@ -34,12 +38,15 @@ mod explain_command;
 mod history;
 mod import_command;
 mod import_fault;
+mod import_refusal;
 mod list_command;
+mod log_places;
 mod parallel;
 mod pieces;
 mod position_command;
 mod printing;
 mod reading;
+mod report;
 mod request;
 mod set_command;
 mod side_by_side;

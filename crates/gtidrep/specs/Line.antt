@@ -10,6 +10,6 @@ IsForOneToMost (Set function first second) = Unit {0}
 IsForOneToMost (Audit order listing) = Unit {0}
 IsForOneToMost Upgrade = Unit {0}
 IsForOneToMost States = Unit {0}
-IsForOneToMost (Import bytes) = Unit {0}
+IsForOneToMost (Import grants is_explained) = Unit {0}
 IsForOneToMost Version = Unit {0}
 IsForOneToMost (Position own ask) = Unit {0}

@@ -22,8 +22,8 @@ status_of (NoCommand (line.Line text)) = 2
 abbrev pub functions_text : List ℕ
 functions_text = codes "Functions of one set: normalize, count. Of two sets: union, intersect, subtract, symmetric,\nsubset, equal, disjoint. Of a set and a UUID: only, without.\n"
 
--- The message on standard error. A refusal is printed on standard output; where the words of `set` are refused, the message lists the
--- functions.
+-- The message on standard error, after what the command wrote there. A refusal is printed by its command; where the words of `set` are
+-- refused, the message lists the functions.
 abbrev pub message_of : Ending → List ℕ
 message_of (Ran (Ok Done)) = []
 message_of (Ran (Ok Refused)) = []

@@ -31,8 +31,8 @@ pub fn exit_status(ending: &Ending) -> u8
     }
 }
 
-/// The message on standard error: whole lines, and none where standard output has the whole answer (our
-/// own rule). It does not allocate.
+/// The message on standard error, after what the command wrote there: whole lines, and none where the command has written its whole
+/// answer (our own rule). It does not allocate.
 pub fn message(ending: &Ending) -> &str
     ensures { result.now ≡ message_of ending.now }
 {

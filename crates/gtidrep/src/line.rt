@@ -1,6 +1,7 @@
 ghost use Rattle.std.specs.Prelude.{◌≡◌, ℕ, ◌≤◌, IfOk, MatchOption};
 ghost use Rattle.gtidrep.specs.Line.{IsForOneToMost};
 
+use binlog_bundle::Grants;
 use clap::builder::ValueParser;
 use clap::error::ErrorKind;
 use clap::{Arg, ArgAction, ArgMatches, Error};
@@ -41,9 +42,10 @@ pub enum Command<'a> {
     Upgrade,
     /// Servers from standard input are compared.
     States,
-    /// A bundle from standard input whose journals are the texts of binary logs is written by version 2.
+    /// A bundle from standard input whose journals are the texts of binary logs is written by version 2, or its refusal is explained.
     Import {
-        bytes: bool,
+        grants: Grants,
+        is_explained: bool,
     },
     /// The version of the program is asked for.
     Version,
@@ -130,11 +132,15 @@ Status: 0 printed, 1 refused, 2 the command line, 3 memory, 4 reading or writing
 
 const IMPORT_EXAMPLE: &str =
     "Reads a bundle of version 2 in which each journal is what mysqlbinlog prints of binary logs of MySQL, and prints it with
-its journals. Transactions of the opening set are left out by mysqlbinlog itself. A refusal names the line of the input.
+its journals. Transactions of the opening set are left out by mysqlbinlog itself. The line of a channel ends with the
+gtid_executed of its server, so that a log that ends early is refused. Standard error has the refusal, which names the line
+of the input, or else a line for each thing that a verdict on the bundle can't see.
 
 Example:
-  (cat head; echo channel east
-   mysqlbinlog -v --base64-output=decode-rows --print-table-metadata --exclude-gtids=OPENING east-bin.0*
+  set -o pipefail
+  (cat head && echo channel east executed EXECUTED &&
+   mysqlbinlog --verify-binlog-checksum -v --base64-output=decode-rows --print-table-metadata \\
+     --exclude-gtids=OPENING east-bin.0* &&
    echo done) | gtidrep import > shop.bundle
 
 Status: 0 printed, 1 refused, 2 the command line, 3 memory, 4 reading or writing failed.";
@@ -244,17 +250,51 @@ fn states_command<'a>(alloc: Global) -> clap::Command<'a> {
         .after_help(STATES_EXAMPLE)
 }
 
-fn import_command<'a>(alloc: Global) -> Result<clap::Command<'a>, AllocError> {
-    let bytes = Arg::new(alloc, "bytes")
-        .long("bytes")
+fn flag<'a>(alloc: Global, id: &'a str, help: &'a str) -> Arg<'a> {
+    Arg::new(alloc, id)
+        .long(id)
         .action(ArgAction::SetTrue)
-        .help("takes keys that the server compares otherwise than by their bytes");
+        .help(help)
+}
+
+fn bytes_flag<'a>(alloc: Global) -> Arg<'a> {
+    flag(
+        alloc,
+        "bytes",
+        "takes keys that the server compares otherwise than by their bytes; then two values that it calls equal may be two keys",
+    )
+}
+
+fn foreign_keys_flag<'a>(alloc: Global) -> Arg<'a> {
+    flag(
+        alloc,
+        "without-foreign-keys",
+        "takes tables with foreign keys; then a reference to a row that is missing can't be seen",
+    )
+}
+
+fn executed_flag<'a>(alloc: Global) -> Arg<'a> {
+    flag(
+        alloc,
+        "executed-unknown",
+        "takes channels whose line doesn't say what their server had executed; then a log that ends early can't be seen",
+    )
+}
+
+fn import_command<'a>(alloc: Global) -> Result<clap::Command<'a>, AllocError> {
     clap::Command::new(alloc, "import")
         .about(
-            "Writes a bundle whose journals are the texts of binary logs: import < examples/shop.logs",
+            "Writes a bundle whose journals are the texts of binary logs: import < examples/ring.logs",
         )
         .after_help(IMPORT_EXAMPLE)
-        .arg(bytes)
+        .arg(bytes_flag(alloc))?
+        .arg(foreign_keys_flag(alloc))?
+        .arg(executed_flag(alloc))?
+        .arg(flag(
+            alloc,
+            "explain",
+            "shows on standard error the line that is refused, with its transaction, its end_log_pos and its file",
+        ))
 }
 
 fn apply_command<'a>(alloc: Global) -> Result<clap::Command<'a>, AllocError> {
@@ -324,6 +364,14 @@ fn listing_of(matches: &ArgMatches) -> Listing {
     }
 }
 
+fn grants_of(matches: &ArgMatches) -> Grants {
+    Grants {
+        bytes: matches.get_flag("bytes"),
+        without_foreign_keys: matches.get_flag("without-foreign-keys"),
+        executed_unknown: matches.get_flag("executed-unknown"),
+    }
+}
+
 fn command_of<'a>(name: &str, matches: &ArgMatches<'a>) -> Option<Command<'a>>
     ensures { MatchOption result (Unit {0}) IsForOneToMost }
 {
@@ -354,7 +402,8 @@ fn command_of<'a>(name: &str, matches: &ArgMatches<'a>) -> Option<Command<'a>>
     }
     if name == "import" {
         return Some(Command::Import {
-            bytes: matches.get_flag("bytes"),
+            grants: grants_of(matches),
+            is_explained: matches.get_flag("explain"),
         });
     }
     Some(Command::Apply {

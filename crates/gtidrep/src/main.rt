@@ -3,12 +3,14 @@
 //!     set <function> <a> [<b>]               position --own <uuid> --ask <set> < journal
 //!     audit [--all | --explain | --ordered] < bundle
 //!     apply [--ordered] [--workers N] < bundle
-//!     upgrade < bundle                       import [--bytes] < bundle of logs
-//!     states < servers                       --version
+//!     import [--bytes] [--without-foreign-keys] [--executed-unknown] [--explain] < bundle of logs
+//!     upgrade < bundle                       states < servers
+//!     --version
 //!
 //! Exit status: 0 done, 1 refused, 2 the command line, 3 out of memory, 4 reading or writing failed (`exit_status`). With 3 and 4 one
 //! line on standard error reports what failed; with 2 standard error has what is wrong with the words; with 0 and 1 it is empty
-//! (`message`, which allocates nothing), but for what `--explain` shows there.
+//! (`message`, which allocates nothing), but for what `--explain` shows there and what `import` reports there: its refusal, or what a
+//! verdict on the bundle can't see.
 //!
 //! What is written is proved in `commands`. Proved here: the status and message for each end, and that a number of workers is 1 to 64
 //! (`parse_line`).
@@ -73,7 +75,16 @@ fn run_over<T: Threads + Sync, S: Source + Send, W: Sink>(
         },
         Command::Upgrade => run_upgrade(alloc, streams),
         Command::States => run_states(alloc, streams),
-        Command::Import { bytes } => run_import(alloc, bytes, streams),
+        Command::Import {
+            grants,
+            is_explained,
+        } => run_import(
+            alloc,
+            grants,
+            is_explained,
+            streams,
+            &mut StdSink::new(rt.stderr()),
+        ),
         Command::Version => run_version(alloc, streams),
         Command::Apply { order, workers } => apply_bundle(threads, alloc, order, workers, streams),
     }
