@@ -15,7 +15,9 @@ from . import commands, random_scripts, scripts
 from .formats import Journal, bundle_lines, journal_lines, read_bundle
 from .gtids import GtidSet
 from .ordered import VERSIONS, Failovers, OrderedAudit, is_borne_out
+from .logs import imported
 from .random_bundles import SOURCES, BundleMaker
+from .random_logs import logs_text, options
 from .random_scripts import Made
 from .random_texts import SetWriter, TextBreaker
 
@@ -61,6 +63,15 @@ class OrderedRun(Run):
         if is_borne_out(OrderedAudit(read_bundle(self.given, VERSIONS)), ended.output.removesuffix("\n")):
             return ended
         return Ended(f"by all orders otherwise than {ended.output}", ended.status, ended.said)
+
+
+@dataclass(frozen=True)
+class ImportRun(Run):
+    """A run of `import`, which tells on standard error what it refuses or assumes."""
+
+    def wanted(self) -> Ended:
+        """What the reference does."""
+        return Ended(*imported(self.given, list(self.words[1:])))
 
 
 @dataclass
@@ -132,6 +143,12 @@ def faults(chance: Random) -> list[Run]:
     for _ in range(maker.few(4)):
         maker.spoil(bundle)
     return gtidrep(text_of(bundle_lines(bundle, version)), "audit --all")
+
+
+def imports(chance: Random) -> list[Run]:
+    """A bundle of logs, perhaps damaged, with some of the options."""
+    text = logs_text(chance)
+    return [ImportRun("gtidrep", ("import", *options(chance)), text)]
 
 
 def restamped(chance: Random, text: str) -> str:
@@ -267,6 +284,7 @@ COMMAND_KINDS: dict[str, Callable[[Random], list[Run]]] = {
     "states": states,
     "ordered": ordered,
     "faults": faults,
+    "imports": imports,
 }
 SCRIPT_KINDS: dict[str, Callable[[Random], Made]] = {"scripts": random_scripts.one_replica, "networks": random_scripts.network}
 KINDS = [*SCRIPT_KINDS, *COMMAND_KINDS]
@@ -274,9 +292,12 @@ KINDS = [*SCRIPT_KINDS, *COMMAND_KINDS]
 
 def reply_of(run: Run) -> str:
     """The kind of the reference's answer to a run of gtidrep."""
-    line = run.wanted().output.split("\n")[0]
+    ended = run.wanted()
+    line = (ended.output or ended.said or "").split("\n")[0]
     first, *more = line.split(" ")
     if first == "refused":
+        if more[0] == "import":
+            return f"import: refused {more[3] if more[1] == 'line' else more[1]}"
         first = " ".join([first, more[0], *more[-1:]]) if more[0] == "E14" else f"{first} {more[0]}"
     elif run.words[0] == "set":
         first = "a line" if line else "the empty line"
