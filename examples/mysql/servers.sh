@@ -4,7 +4,8 @@
 #   mysql_init N               a new empty data folder for server N (1 to 9)
 #   mysql_start N [OPTION..]   starts server N with GTIDs, a binary log in row format, full row images and full metadata
 #   mysql_cli N [ARGUMENT..]   the client of server N
-#   mysql_log N [ARGUMENT..]   the text of server N's binary logs, as `gtidrep import` reads it
+#   mysql_log N [ARGUMENT..]   the text of server N's binary logs, as `gtidrep import` reads it; its status is not 0 where mysqlbinlog failed,
+#                              and then the text is not that of the whole log, though it ends as one
 #   mysql_stop N               stops server N
 : "${MYSQL_DIR:?a folder for the packages and the data}"
 mkdir -p "$MYSQL_DIR"
@@ -57,7 +58,7 @@ mysql_cli() {
 mysql_log() {
   local server=$1
   shift
-  mysql_run bin/mysqlbinlog -v --base64-output=decode-rows --print-table-metadata "$@" "$MYSQL_DIR/data/$server/d"/bin.0*
+  mysql_run bin/mysqlbinlog -v --base64-output=decode-rows --print-table-metadata --verify-binlog-checksum "$@" "$MYSQL_DIR/data/$server/d"/bin.0*
 }
 
 mysql_init() {

@@ -13,9 +13,24 @@ begin() {
     ask $it "SET sql_log_bin = 0; CREATE USER 'copy'@'127.0.0.1' IDENTIFIED BY 'copy'; GRANT REPLICATION SLAVE ON *.* TO 'copy'@'127.0.0.1'"
   done
   opening=$("$gtidrep" set union "$(executed 1)" "$(executed 2)")
+  # each has the tables, so each counts the other's transactions that made them as executed
+  for it in 1 2; do ask $it "SET GLOBAL gtid_purged = '+$("$gtidrep" set subtract "$opening" "$(executed $it)")'"; done
   # the third has the tables by hand, and counts the transactions that made them as executed
   (echo 'SET sql_log_bin = 0;' && cat "$here/schema.sql") | mysql_cli 3
   ask 3 "SET GLOBAL gtid_purged = '$opening'"
+}
+
+# The line of a channel, and the log of its server: what the server has executed is read before the log, so all of it has to be there.
+channel() {
+  echo "channel $1 executed $(executed_word "$2")"
+  mysql_log "$2" --exclude-gtids="${opening#-}"
+}
+
+# The executed set of a server as a word of a bundle.
+executed_word() {
+  local set
+  set=$("$gtidrep" set normalize "$(executed "$1")")
+  echo "${set:--}"
 }
 
 # The binary logs of servers 1 and 2 as a bundle.
@@ -24,10 +39,8 @@ bundle() {
   echo "replica $(ask 3 'SELECT @@server_uuid')"
   echo "opening $opening"
   (echo "SET @db = 'shop';" && cat "$here/tables.sql") | mysql_cli 1 -N -r
-  echo "channel east"
-  mysql_log 1 --exclude-gtids="$opening"
-  echo "channel west"
-  mysql_log 2 --exclude-gtids="$opening"
+  channel east 1
+  channel west 2
   echo "done"
 }
 
