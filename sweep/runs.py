@@ -9,7 +9,7 @@ resource.setrlimit(resource.RLIMIT_CORE, (0, 0))
 HERE = os.path.dirname(os.path.abspath(__file__))
 TOP = os.path.dirname(HERE)
 
-RING = "examples/ring.bundle"
+RING = "tests/cases/relayed.bundle"
 FIRST = "examples/first.bundle"
 THREE = "sweep/three.bundle"
 STOPPED = "sweep/stopped.bundle"  # the second transaction of its first channel is refused, and that channel is stopped
