@@ -7,7 +7,7 @@ use Rattle.std.proofs.lemmas.Bool.Decides.{nat_tests}
 use Rattle.gtid_text.specs.declared.Span.{Span}
 use Rattle.gtid_text.specs.declared.SourceId.{SourceId}
 use Rattle.gtid_text.specs.Grammar.{Number, Interval, Element, IsUpper, AreIntervals, IsElement, AreElements, ParsesAs}
-use Rattle.gtid_text.specs.Reading.{answer, spans_in}
+use Rattle.gtid_text.specs.Reading.{answer, spans_in, IsAccepted}
 use Rattle.gtid_text.specs.declared.scan.ScanFault.{ScanFault}
 use Rattle.gtid_text.specs.declared.fault.TextFault.{TextFault}
 use Rattle.gtid_text.specs.declared.fault.TextFault.TheVariants as faults
@@ -57,8 +57,8 @@ pub same_read : (spans read : List Span) → as_read spans ≡ as_read read → 
 same_read spans read e = cc
 
 -- intervals that are read want no fault but memory
-pub memory_alone : (spans : List Span) (len : ℕ) (f : TextFault) → (f ≡ faults.Memory) ⊎ (answer len (as_read spans) ≡ Err f) → f ≡ faults.Memory
-memory_alone spans len f (inl e) = e
+pub memory_alone : (spans : List Span) (len : ℕ) (f : TextFault) → (f ≡ faults.Memory × IsAccepted (as_read spans)) ⊎ (answer len (as_read spans) ≡ Err f) → f ≡ faults.Memory
+memory_alone spans len f (inl e) = e.0
 memory_alone spans len f (inr e) = absurd cc
 
 -- the set of what was read is that of any reading
@@ -105,7 +105,7 @@ given_fault text spans PoolFull e full = inr (given_crowded text spans e full.0 
 given_fault text spans SourcesFull e full = inr (given_full text spans e full)
 
 -- the answer, where the text was refused
-pub given_refusal : (text : List ℕ) (f : TextFault) → (f ≡ faults.Memory) ⊎ (answer (length text) (spans_in text) ≡ Err f) → (f ≡ faults.Memory) ⊎ (set_in text ≡ Err (Text f))
+pub given_refusal : (text : List ℕ) (f : TextFault) → (f ≡ faults.Memory × IsAccepted (spans_in text)) ⊎ (answer (length text) (spans_in text) ≡ Err f) → (f ≡ faults.Memory) ⊎ (set_in text ≡ Err (Text f))
 unfolding set_in
-given_refusal text f (inl e) = inl e
+given_refusal text f (inl e) = inl e.0
 given_refusal text f (inr e) = inr (ap set_from e)

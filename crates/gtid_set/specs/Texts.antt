@@ -22,7 +22,7 @@ abbrev pub IsOutOfMemory : SetTextFault → Type 0
 IsOutOfMemory (Text f) = f ≡ faults.Memory
 IsOutOfMemory (Set f) = f ≡ Memory
 
--- no memory, a refusal of the text, or a set with too many sources or intervals
+-- no memory for the set of a text, a refusal of the text, or a set with too many sources or intervals
 abbrev pub RefusesSet : SetTextFault → List ℕ → Type 0
 RefusesSet (Text f) text = FailsText IsSetText f text
 RefusesSet (Set f) text = (spans : List Span) × ParsesAs text spans × IsFullExactly {T = Unit {0}} (Err f) (set_of spans)

@@ -51,7 +51,7 @@ impl From<PoolFault> for SetFault {
 /// Why a text was not read as a set.
 #[derive(Clone, Copy, Debug, PartialEq, Eq, Error)]
 pub enum SetTextFault {
-    /// The text parses as no set, or memory was refused while it was read.
+    /// The text parses as no set, or memory was refused while a set's text was read.
     #[error("{0}")]
     Text(TextFault),
     /// The set could not be made.

@@ -382,7 +382,7 @@ impl GtidSet {
         ensures found { IfOk result (λ s. ParsesAsSet text.now s) }
         // A text of a set by the grammar is accepted as it, if memory and its sources allow.
         ensures only { (s : Gtids) → ParsesAsSet text.now s → IsReadAs result s }
-        // It is refused where the text parses as no set, or one with too many sources.
+        // It is refused where the text parses as no set, or one with too many sources. Out of memory is answered to a set's text alone.
         ensures refused { IfErr result (λ fault. RefusesSet fault text.now) }
         // The result is the defined one, also which refusal it is.
         ensures exact { GivesSet result (set_in text.now) }

@@ -20,7 +20,7 @@ is_found view text (Err f) len h = tt
 
 pub is_only : {X : Type 0} (view : X → List Span) (text : List ℕ) (r : Result X TextFault) (len : ℕ) → GivesText view r len (spans_in text) → (spans : List Span) → ParsesAs text spans → GivesText view r len (Ok spans)
 is_only view text (Ok v) len h spans s = sym (spells_read text spans s) ∙ h
-is_only view text (Err f) len (inl e) spans s = inl e
+is_only view text (Err f) len (inl e) spans s = inl (e.0, (spans, refl))
 is_only view text (Err f) len (inr e) spans s = inr (ap (answer len) (sym (spells_read text spans s)) ∙ e)
 
 fault_is : {A : Type 0} (len : ℕ) (read : Result A ScanFault) (f : TextFault) → answer len read ≡ Err f → (r : ScanFault) × (read ≡ Err r) × (f ≡ fault_in len r)
@@ -29,7 +29,7 @@ fault_is len (Err r) f e = (r, refl, cc)
 
 pub is_refused : {X : Type 0} (view : X → List Span) (text : List ℕ) (r : Result X TextFault) → GivesText view r (length text) (spans_in text) → IfErr r (λ fault. FailsText IsSetText fault text)
 is_refused view text (Ok v) h = tt
-is_refused view text (Err f) (inl e) = inl e
+is_refused view text (Err f) (inl e) = inl (e.0, (e.1.0, read_spells text e.1.0 e.1.1))
 is_refused view text (Err f) (inr e) = let k = fault_is (length text) (spans_in text) f e in inr (k.0, k.2, is_stuck text k.0 k.1)
 
 answered_ok : {A : Type 0} (len : ℕ) (read : Result A ScanFault) (x : A) (r : Result A TextFault) → r ≡ answer len read → r ≡ Ok x → read ≡ Ok x

@@ -24,15 +24,19 @@ fault_at kinds.Stray at = faults.Stray at
 abbrev pub fault_in : ℕ → ScanFault → TextFault
 fault_in len r = fault_at r.kind (len - r.left)
 
+-- the text is accepted: reading gives something, and no refusal
+abbrev pub IsAccepted : {A : Type 0} → Result A ScanFault → Type 0
+IsAccepted {A} read = (x : A) × (read ≡ Ok x)
+
 -- the result for a text of this length
 abbrev pub answer : {A : Type 0} → ℕ → Result A ScanFault → Result A TextFault
 answer len (Ok x) = Ok x
 answer len (Err r) = Err (fault_in len r)
 
--- The view of what a function returned is this result, unless memory was refused.
+-- The view of what a function returned is this result; memory is named only where the text is not refused.
 abbrev pub GivesText : {X Y : Type 0} → (X → Y) → Result X TextFault → ℕ → Result Y ScanFault → Type 0
 GivesText view (Ok x) len read = read ≡ Ok (view x)
-GivesText view (Err fault) len read = (fault ≡ faults.Memory) ⊎ (answer len read ≡ Err fault)
+GivesText view (Err fault) len read = (fault ≡ faults.Memory × IsAccepted read) ⊎ (answer len read ≡ Err fault)
 
 unfoldable pub source_in : List ℕ → Result SourceId ScanFault
 source_in text = do
@@ -121,9 +125,9 @@ spans_at (suc k) inside rest = turn_at inside rest >>= λ t. go_on t (λ next le
 unfoldable pub spans_in : List ℕ → Result (List Span) ScanFault
 spans_in text = spans_at (suc (length text)) None text
 
--- The view of what a function returned is what reading gives, unless memory was refused.
+-- The view of what a function returned is what reading gives; memory is named only where nothing is refused.
 abbrev pub FailsScan : {Y : Type 0} → ScanError → Result Y ScanFault → Type 0
-FailsScan errors.Memory read = Unit {0}
+FailsScan errors.Memory read = IsAccepted read
 FailsScan (errors.Refused r) read = read ≡ Err r
 
 abbrev pub Gives : {X Y : Type 0} → (X → Y) → Result X ScanError → Result Y ScanFault → Type 0

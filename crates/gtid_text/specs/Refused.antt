@@ -57,6 +57,6 @@ pub record IsStuck (IsRead : List ℕ → Type 0) (text : List ℕ) (r : ScanFau
 abbrev pub Refuses : (List ℕ → Type 0) → TextFault → List ℕ → Type 0
 Refuses IsRead fault text = (r : ScanFault) × (fault ≡ fault_in (length text) r) × IsStuck IsRead text r
 
--- memory ran out, or the text is refused
+-- memory ran out on a text that is read, or the text is refused
 abbrev pub FailsText : (List ℕ → Type 0) → TextFault → List ℕ → Type 0
-FailsText IsRead fault text = (fault ≡ faults.Memory) ⊎ Refuses IsRead fault text
+FailsText IsRead fault text = (fault ≡ faults.Memory × IsRead text) ⊎ Refuses IsRead fault text

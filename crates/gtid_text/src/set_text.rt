@@ -190,6 +190,8 @@ fn whole_spans(alloc: Global, bytes: &[u8]) -> Result<Vec<Span>, ScanError>
     ensures { Gives (λ v. v.items) result (spans_in bytes.now) }
 {
     let mut spans = Vec::new(alloc);
+    // Once memory was refused, the rest is read for its refusal alone.
+    let mut lost = false;
     let mut inside = None;
     let mut rest = bytes;
     'turns: loop {
@@ -198,9 +200,10 @@ fn whole_spans(alloc: Global, bytes: &[u8]) -> Result<Vec<Span>, ScanError>
             Err(refusal) => return Err(ScanError::Refused(refusal)),
         };
         match read {
+            None if lost => return Err(ScanError::Memory),
             None => return Ok(spans),
             Some((span, next, left)) => {
-                put(&mut spans, span)?;
+                lost = lost || put(&mut spans, span).is_err();
                 inside = next;
                 rest = left;
             }
@@ -270,7 +273,7 @@ pub fn parse_spans(alloc: Global, text: &str) -> Result<Vec<Span>, TextFault>
     ensures found { IfOk result (λ v. ParsesAs text.now v.items) }
     // A text of these intervals by the grammar is accepted as them, unless memory is refused.
     ensures only { (spans : List Span) → ParsesAs text.now spans → GivesText (λ v. v.items) result (length text.now) (Ok spans) }
-    // It is refused at the first token at which no continuation parses as a set.
+    // It is refused at the first token at which no continuation parses as a set. Out of memory is answered to a set's text alone.
     ensures refused { IfErr result (λ fault. FailsText IsSetText fault text.now) }
     // The result is that of the table of states, also which refusal it is.
     ensures exact { GivesText (λ v. v.items) result (length text.now) (spans_in text.now) }
