@@ -104,6 +104,10 @@ IsAfter may new after = ((fault : SetFault) × (new ≡ Stopped (faults.Set faul
 abbrev pub Feeds : {S : Type 0} → (SetFault → S → Type 0) → Judge S → Progress S → List ℕ → Progress S → Type 0
 Feeds full judge old piece new = IsAfter (IsPieceFault full judge old piece) new (feed_bytes judge old piece)
 
+-- a reading that has stopped stays stopped, at the same fault
+abbrev pub StaysStopped : {S : Type 0} → Progress S → Progress S → Type 0
+StaysStopped old new = (fault : JournalFault) → old ≡ Stopped fault → new ≡ Stopped fault
+
 abbrev pub answer : {S : Type 0} → Progress S → Result (Unit {0}) JournalFault
 answer (Reading s n rest) = Ok tt
 answer (Stopped fault) = Err fault

@@ -130,7 +130,7 @@ pub struct BundleReader {
 
 impl BundleReader {
     ghost use Rattle.std.specs.Prelude.{IfSome, IfNone, IsOk, Err};
-    ghost use Rattle.txn_journal.specs.Stream.{answer, NamesSources};
+    ghost use Rattle.txn_journal.specs.Stream.{answer, StaysStopped, NamesSources};
     ghost use Rattle.txn_journal.specs.BundleStates.{judge_bundle, IsFullBundle, CountsFirst};
     ghost use Rattle.txn_journal.specs.Formats.{FeedsBy};
     ghost use Rattle.txn_journal.specs.BundleReading.{bundles, bundle_start, closing_bundle};
@@ -155,6 +155,7 @@ impl BundleReader {
     /// Takes the next piece. After an error every later call returns that error.
     pub fn feed(&mut self, alloc: Global, piece: &[u8]) -> Result<(), JournalFault>
         ensures next { FeedsBy (bundles None) (bundle_reading self.old) piece.now (bundle_reading self.new) }
+        ensures stays { StaysStopped (bundle_reading self.old) (bundle_reading self.new) }
         ensures answer { result ≡ answer (bundle_reading self.new) }
         // In version 1 a line that ends an entry, and is the first of the piece, is refused for too many sources whatever memory there is.
         ensures room { NamesSources CountsFirst IsFullBundle judge_bundle (bundle_reading self.old) piece.now result }
@@ -165,6 +166,7 @@ impl BundleReader {
     /// Takes the next piece, whose lines were parsed. After an error every later call returns that error.
     pub fn feed_parsed(&mut self, alloc: Global, piece: ParsedLines<'_>) -> Result<(), JournalFault>
         ensures next { FeedsBy (bundles None) (bundle_reading self.old) piece.entry (bundle_reading self.new) }
+        ensures stays { StaysStopped (bundle_reading self.old) (bundle_reading self.new) }
         ensures answer { result ≡ answer (bundle_reading self.new) }
     {
         self.feed.feed_parsed(alloc, piece)

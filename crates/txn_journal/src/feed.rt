@@ -129,17 +129,18 @@ impl<T: TakeLine> Feed<T> {
     ghost use Rattle.std.specs.Prelude.{[], ◌∷◌, ◌++◌, None, Err, OnOk};
     ghost use Rattle.gtid_set.specs.declared.fault.SetFault.TheVariants.{SourcesFull};
     ghost use Rattle.txn_journal.specs.declared.fault.JournalFault.TheVariants.{Set};
-    ghost use Rattle.txn_journal.specs.Stream.{feed_bytes, IsPieceFault, Feeds, TakesPiece, GivesFull, NamesSources, answer};
+    ghost use Rattle.txn_journal.specs.Stream.{feed_bytes, IsPieceFault, Feeds, StaysStopped, TakesPiece, GivesFull, NamesSources, answer};
     ghost use Rattle.txn_journal.specs.Feeds.{progress};
 
     /// Takes the next piece. After an error every later call returns that error.
     pub fn feed(&mut self, alloc: Global, piece: &[u8]) -> Result<(), JournalFault>
         ensures next { Feeds T.full T.judge (progress self.old) piece.now (progress self.new) }
+        ensures stays { StaysStopped (progress self.old) (progress self.new) }
         ensures answer { result ≡ answer (progress self.new) }
         ensures room { NamesSources T.counts T.full T.judge (progress self.old) piece.now result }
     {
-        if let Err(fault) = self.answer() {
-            return Err(fault);
+        if let Err(earlier) = self.answer() {
+            return Err(earlier);
         }
         if let Err(fault) = self.take_piece(alloc, piece) {
             self.stopped = Some(fault);
@@ -228,7 +229,7 @@ impl<T: TakeLine> Feed<T> {
 
 impl<T: TakeChange> Feed<T> {
     ghost use Rattle.std.specs.Prelude.{[], ◌∷◌, ◌++◌, None, OnOk};
-    ghost use Rattle.txn_journal.specs.Stream.{feed_bytes, IsPieceFault, Feeds, TakesPiece, answer};
+    ghost use Rattle.txn_journal.specs.Stream.{feed_bytes, IsPieceFault, Feeds, StaysStopped, TakesPiece, answer};
     ghost use Rattle.txn_journal.specs.ChangeLines.{HasChange};
     ghost use Rattle.txn_journal.specs.ParsedTexts.{item_text};
     ghost use Rattle.txn_journal.specs.Feeds.{progress};
@@ -236,6 +237,7 @@ impl<T: TakeChange> Feed<T> {
     /// Takes the next piece, whose lines were parsed. After an error every later call returns that error.
     pub fn feed_parsed(&mut self, alloc: Global, piece: ParsedLines<'_>) -> Result<(), JournalFault>
         ensures next { Feeds T.full T.judge (progress self.old) piece.entry (progress self.new) }
+        ensures stays { StaysStopped (progress self.old) (progress self.new) }
         ensures answer { result ≡ answer (progress self.new) }
     {
         if let Err(fault) = self.answer() {

@@ -98,7 +98,7 @@ pub struct Reader {
 impl Reader {
     ghost use Rattle.std.specs.Prelude.{None, Ok, Err, IfOk, IfErr, OnOk};
     ghost use Rattle.txn_journal.specs.Machine.{judge, IsFull};
-    ghost use Rattle.txn_journal.specs.Stream.{answer, IsAfter, NamesSources};
+    ghost use Rattle.txn_journal.specs.Stream.{answer, IsAfter, StaysStopped, NamesSources};
     ghost use Rattle.txn_journal.specs.Formats.{FeedsBy};
     ghost use Rattle.txn_journal.specs.Reading.{journals, alone_start, before_first, entries_of, without_entries, feed_journal_bytes, IsFaultAlone, closing};
     ghost use Rattle.txn_journal.specs.Timestamped.{closing_timestamped};
@@ -127,6 +127,7 @@ impl Reader {
     /// Takes the next piece. After an error every later call returns that error.
     pub fn feed(&mut self, alloc: Global, piece: &[u8]) -> Result<(), JournalFault>
         ensures next { FeedsBy journals (reading self.old) piece.now (reading self.new) }
+        ensures stays { StaysStopped (reading self.old) (reading self.new) }
         ensures answer { result ≡ answer (reading self.new) }
         // A line that ends an entry, and is the first of the piece, is refused for too many sources whatever memory there is.
         ensures room { NamesSources (λ _. Unit {0}) IsFull (judge None) (reading self.old) piece.now result }
