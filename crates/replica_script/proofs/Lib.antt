@@ -1,3 +1,6 @@
 pub mod Faults
 pub mod SourceWords
 pub mod DistinctSources
+pub mod ReadBack
+pub mod Answered
+pub mod Runs

@@ -6,3 +6,6 @@ pub mod Texts
 pub mod Scripts
 pub mod Networks
 pub mod Messages
+pub mod Told
+pub mod Answering
+pub mod Laws

@@ -57,3 +57,11 @@ behind_one word (Some rest) first = option_and_then (behind_two word first (othe
 
 abbrev pub with_numbers : List ℕ → List ℕ → Option Question
 with_numbers word rest = option_and_then (behind_one word (others rest)) (count_of (first_word rest))
+
+-- the question that a line is, by its first word and what is behind it; the lines that open a channel or begin a transaction are none of these
+abbrev pub question_behind : List ℕ → Option (List ℕ) → Option Question
+question_behind word None = question_alone word
+question_behind word (Some rest) = with_numbers word rest
+
+abbrev pub question_of : List ℕ → Option Question
+question_of line = question_behind (first_word line) (others line)

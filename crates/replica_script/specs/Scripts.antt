@@ -23,7 +23,8 @@ use Rattle.replica_script.specs.declared.edge.ScriptFault.{ScriptFault}
 use Rattle.replica_script.specs.declared.edge.ScriptFault.TheVariants.{BadLine, CutShort, Memory, Changed, Read, Write}
 use Rattle.replica_script.specs.declared.Command.{Command}
 use Rattle.replica_script.specs.declared.Command.TheVariants.{Run, Help}
-use Rattle.replica_script.specs.Replies.{with_line_feed, reply_line}
+use Rattle.replica_lines.specs.Replies.{reply_line}
+use Rattle.replica_script.specs.Replies.{with_line_feed}
 use Rattle.replica_script.specs.Texts.{query_text}
 
 -- ---- answers

@@ -7,6 +7,13 @@
 //! before, or in the state after the event whose reply could not be printed (`left`). A network likewise (`answer_network`). A bad line
 //! ends the script (`stop`, `stops`).
 //!
+//! From the input to the output (`run_script`, where a reader's bytes are known): the lines are taken in order from the first on, each by
+//! the state that the line before it left, and what was written is their answers; where a write fails it is these answers and a prefix of
+//! the next. It ends where nothing is left, or at the first line that has no answer, and the fault is that line's with its number (`Ends`).
+//! The proof knows nothing of what answers the lines (`Answerer`), and so it can neither skip, repeat nor make up an answer. Of `Script`'s own
+//! answers it is proved that a line which is passed over is answered by nothing and changes nothing, that `---` begins anew, and that none
+//! comes after a stop (`IsTold`). What is written of a seat's event is read back as that event (`laws`).
+//!
 //! Tables, rows and changes are read by the readers of `txn_journal`.
 //!
 //! With `--again` an event or query that is refused memory is asked once more, where the replica equals a copy that was made before it.
@@ -25,6 +32,7 @@ ghost use Rattle.replica_script.specs.Scripts.{command_named, command_of, status
 mod answer;
 mod declaration;
 mod edge;
+mod laws;
 mod message;
 mod network_answer;
 mod query;

@@ -1,11 +1,11 @@
 //! A script, line by line.
-ghost use Rattle.std.specs.Prelude.{◌≡◌, None, Some, Err, IfOk, IfErr, OnOk, is_some};
-ghost use Rattle.replica_script.specs.declared.answer.Stop.{Stop};
+ghost use Rattle.std.specs.Prelude.{◌≡◌, None, Some, IfOk, IfErr, codes};
 ghost use Rattle.replica_script.specs.Declarations.{IsOpenedAs};
-ghost use Rattle.replica_script.specs.Scripts.{ending};
+ghost use Rattle.replica_script.specs.Told.{IsFresh, IsStart, IsStoppedBy, IsTaken, IsTold, is_passed_over};
 
 use crate::answer::{Asking, Stop};
 use crate::declaration::{Declared, core_on, executed_word, network_on, source_words};
+use crate::edge::Answerer;
 use crate::question::{Asked, NetworkQuestion, asked_of, network_event_in, number, question_in};
 use crate::replicas::{Replicas, answer_asked};
 use crate::transaction::{Pending, heading_in};
@@ -18,7 +18,9 @@ use std::mem;
 use txn_journal::Bundle;
 
 /// Whether a line is passed over: an empty one, or a comment.
-fn is_passed_over(line: &[u8]) -> bool {
+fn is_passed_over(line: &[u8]) -> bool
+    ensures { result ≡ is_passed_over line.now }
+{
     match line {
         [] => true,
         [first, ..] => *first == b'#',
@@ -86,7 +88,9 @@ struct Stage {
 
 impl Stage {
     /// Before the first line.
-    fn start(alloc: Global, asking: Asking) -> Stage {
+    fn start(alloc: Global, asking: Asking) -> Stage
+        ensures { IsFresh asking result }
+    {
         Stage {
             asking,
             declared: Declared::start(alloc),
@@ -188,13 +192,17 @@ impl Stage {
     }
 
     /// Begins again, without tables, rows and replicas.
-    fn restart(&mut self, alloc: Global) {
+    fn restart(&mut self, alloc: Global)
+        ensures { IsFresh self.old.asking self.new }
+    {
         let fresh = Stage::start(alloc, self.asking);
         put(self, fresh);
     }
 
     /// Takes a line outside a transaction.
-    fn take_whole(&mut self, alloc: Global, line: &[u8]) -> Result<Vec<u8>, Stop> {
+    fn take_whole(&mut self, alloc: Global, line: &[u8]) -> Result<Vec<u8>, Stop>
+        ensures { line.now ≡ codes "---" → IfOk result (λ text. (text.items ≡ codes "---\n") × IsFresh self.old.asking self.new) }
+    {
         if line == b"---".as_slice() {
             self.restart(alloc);
             return Ok(Vec::from_slice(alloc, b"---\n")?);
@@ -216,7 +224,9 @@ impl Stage {
     }
 
     /// Takes the next line, and answers it.
-    fn take(&mut self, alloc: Global, line: &[u8]) -> Result<Vec<u8>, Stop> {
+    fn take(&mut self, alloc: Global, line: &[u8]) -> Result<Vec<u8>, Stop>
+        ensures { IfOk result (λ text. IsTaken self.old line.now text.items self.new) }
+    {
         if is_passed_over(line) {
             return Ok(Vec::new(alloc));
         }
@@ -240,19 +250,29 @@ pub struct Script {
 impl Script {
     /// Before the first line.
     pub fn start(alloc: Global, asking: Asking) -> Script
-        ensures { result.stopped ≡ None }
+        ensures { IsStart asking result }
     {
         Script {
             stage: Stage::start(alloc, asking),
             stopped: None,
         }
     }
+}
+
+impl Answerer for Script {
+    ghost use Rattle.replica_script.specs.Told.{IsTold, IsStoppedBy, script_end};
+
+    ghost answers = { IsTold };
+
+    ghost stops = { IsStoppedBy };
+
+    ghost ends = { script_end };
 
     /// Takes the next line, and answers it: no line, one or several. After a stop every later call answers that stop.
-    pub fn take_line(&mut self, alloc: Global, line: &[u8]) -> Result<Vec<u8>, Stop>
-        ensures goes_on { OnOk result (self.new.stopped ≡ None) }
+    fn take_line(&mut self, alloc: Global, line: &[u8]) -> Result<Vec<u8>, Stop>
+        ensures answer { IfOk result (λ text. IsTold self.old line.now text.items self.new) }
+        ensures stop { IfErr result (IsStoppedBy self.old line.now) }
         ensures stops { IfErr result (λ stop. self.new.stopped ≡ Some stop) }
-        ensures sticky { (stop : Stop) → self.old.stopped ≡ Some stop → result ≡ Err stop }
     {
         if let Some(stop) = self.stopped {
             return Err(stop);
@@ -267,9 +287,7 @@ impl Script {
     }
 
     /// How the script has ended, where no line follows. An end inside a transaction is a bad line.
-    pub fn end(&self) -> Result<(), Stop>
-        ensures { result ≡ ending self.now.stopped (is_some self.now.stage.pending) }
-    {
+    fn end(&self) -> Result<(), Stop> {
         if let Some(stop) = self.stopped {
             return Err(stop);
         }

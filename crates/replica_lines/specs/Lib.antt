@@ -1,0 +1,3 @@
+pub mod Replies
+pub mod Events
+pub mod Histories
