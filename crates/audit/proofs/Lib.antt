@@ -15,6 +15,8 @@ pub mod Lying
 pub mod Lacking
 pub mod Others
 pub mod Passings
+pub mod Counting
+pub mod FoundKinds
 pub mod Parts
 pub mod OtherUnequals
 pub mod Nearest

@@ -1,9 +1,14 @@
 -- Why the set of what is missing is not made.
-use Rattle.std.proofs.Common.{◌≡◌, ℕ, ◌+◌, ◌-◌, Bool, true, false, ◌∷◌, not, ◌&&◌, List, map, drop, Option, Some, None, Result, Ok, Err, IfErr, refl, sym, ap, ◌∙◌, subst}
+use Rattle.std.proofs.Common.{◌≡◌, ℕ, ◌<◌, ◌≤◌, ◌+◌, ◌-◌, Bool, true, false, ◌∷◌, not, ◌&&◌, ◌==◌, List, length, map, drop, Option, Some, None, Result, Ok, Err, IfErr, refl, sym, ap, ◌∙◌, subst, arith}
+use Rattle.std.specs.Cmp.{nat_cmp_is}
 use Rattle.std.specs.FinMap as finmap
 use Rattle.std.specs.FinSet as set
 use Rattle.std.specs.FinSet.{contains-difference, contains-empty}
-use Rattle.std.proofs.lemmas.Bool.{and_parts, or_left, false_from_ne_true}
+use Rattle.std.specs.Ordering.{ordering_then}
+use Rattle.std.specs.declared.cmp.Ordering.TheVariants.{Less, Equal}
+use Rattle.std.proofs.lemmas.Bool.{and_parts, or_left, false_from_ne_true, not-true}
+use Rattle.std.proofs.lemmas.Bool.Decides.{nat_tests}
+use Rattle.std.proofs.lemmas.List.{length-map}
 use Rattle.gtid_text.specs.declared.Gtid.{Gtid}
 use Rattle.gtid_text.specs.Gtids.{gtid_cmp, same_gtid}
 use Rattle.world.specs.declared.verdict.Verdict.{Verdict}
@@ -13,60 +18,116 @@ use Rattle.gtid_set.proofs.SetLemmas.{same_members}
 use Rattle.gtid_text.proofs.SameGtid.{gtid_total, same_is_equal}
 use Rattle.gtid_set.specs.declared.fault.SetFault.{SetFault}
 use Rattle.gtid_set.specs.declared.fault.SetFault.TheVariants.{Memory, PoolFull, SourcesFull}
-use Rattle.gtid_set.specs.Sets.{Gtids, interval}
-use Rattle.gtid_set.specs.Full.{HasManySources, HasManyIntervals, IsFaultOf, IsCrowdedExactly}
+use Rattle.gtid_set.specs.Edges.{has_before}
+use Rattle.gtid_set.specs.Sets.{Gtids, gtid, interval}
+use Rattle.gtid_set.specs.Full.{interval_count, HasManySources, IsFaultOf, IsCrowdedExactly}
+use Rattle.gtid_set.proofs.EdgeLemmas.{difference_few, insert_few}
 use Rattle.gtid_set.proofs.FaultLemmas.{fault_map}
+use Rattle.gtid_set.proofs.SetSources.{fewer_sources}
 use Rattle.journal.specs.declared.Entry.{Entry}
 use Rattle.journal.specs.Journals.{JournalValue}
 use Rattle.source_history.specs.World.{World}
 use Rattle.source_history.specs.World as history
-use Rattle.world.specs.Audit.{all_entries, first_contents}
+use Rattle.world.specs.Audit.{all_entries, first_contents, present, verdict}
+use Rattle.world.proofs.Leasts.{missing_is_least}
 use Rattle.audit.specs.Contents.{Contents, as_pair, in_order}
 use Rattle.audit.specs.Missing.{number_before}
-use Rattle.audit.specs.Others.{HasPart, IsPartFault, but_missing, IsWithin, is_skipped, missing_in, skipped_in, skips_from}
+use Rattle.audit.specs.Faults.{IsAuditFault, IsFaultWithin, intervals_of}
+use Rattle.audit.specs.Others.{IsListFault, but_missing, is_skipped, missing_in, skipped_in, skips_from}
+use Rattle.audit.proofs.Counting.{no_intervals, union_interval_few, without_few, skips_few, present_few, lacks_few}
+use Rattle.audit.proofs.FoundKinds.{found_missing}
 use Rattle.audit.proofs.Made.{pairs_of}
 use Rattle.audit.proofs.Passings.{in_skips, in_one, in_but, in_set_missing}
 
-part_more : (Many : Gtids → Type 0) (part whole : Gtids) → IsWithin part whole → HasPart Many part → HasPart Many whole
-part_more Many part whole within h = record { part = h.part; within = λ g e. within g (h.within g e); many = h.many }
+-- these are some of the GTIDs that a set has
+abbrev IsWithin : Gtids → Gtids → Type 0
+IsWithin part whole = (g : Gtid) → set.contains part g ≡ true → set.contains whole g ≡ true
 
--- what is wrong with some is wrong with a part of the whole
-pub fault_of_part : (f : SetFault) (part whole : Gtids) → IsWithin part whole → IsFaultOf f part → IsPartFault whole f
-fault_of_part f part whole within =
-    fault_map f (λ many. record { part = part; within = within; many = many }) (λ many. record { part = part; within = within; many = many })
-
-pub fault_of_more : (f : SetFault) (part whole : Gtids) → IsWithin part whole → IsPartFault part f → IsPartFault whole f
-fault_of_more f part whole within = fault_map f (part_more HasManySources part whole within) (part_more HasManyIntervals part whole within)
-
-pub within_difference : (s t : Gtids) → IsWithin (set.difference s t) s
+within_difference : (s t : Gtids) → IsWithin (set.difference s t) s
 within_difference s t g e = (and_parts (set.contains s g) (not (set.contains t g)) (sym (contains-difference gtid_total s t g) ∙ e)).0
 
-pub fault_of_difference : {T : Type 0} (r : Result T SetFault) (s t : Gtids) → IsCrowdedExactly r (set.difference s t) → IfErr r (IsPartFault s)
-fault_of_difference (Ok x) s t h = tt
-fault_of_difference (Err Memory) s t h = tt
-fault_of_difference (Err PoolFull) s t h = record { part = set.difference s t; within = within_difference s t; many = h }
-fault_of_difference (Err SourcesFull) s t h = absurd h
-
-pub one_within : (s : Gtids) (g : Gtid) → set.contains s g ≡ true → IsWithin (set.insert set.empty g) s
-one_within s g there h e = ap (set.contains s) (same_is_equal h g (sym (in_one g h) ∙ e)) ∙ there
-
-pub within_skips : (skipped : Gtids) (last : Option Gtid) (es : List history.Entry) → IsWithin skipped (skips_from skipped last es)
+within_skips : (skipped : Gtids) (last : Option Gtid) (es : List history.Entry) → IsWithin skipped (skips_from skipped last es)
 within_skips skipped last es g e = in_skips skipped last es g ∙ or_left (set.contains skipped g) (is_skipped last es g) e
 
+-- some of the GTIDs of a set do not have more sources
+many_sources : (part whole : Gtids) → IsWithin part whole → HasManySources part → HasManySources whole
+many_sources part whole within many = let few = fewer_sources part whole within in omega (arith, few, many)
+
 -- a step of the pass
-pub fault_of_step : (f : SetFault) (entries rest : List Entry) (i : ℕ) (e : Entry) (skipped whole : Gtids) (last : Option Gtid) (lo : ℕ) → drop i entries ≡ e ∷ rest → lo ≡ number_before last e.gtid.source
-    → skips_from skipped last (map as_pair (drop i entries)) ≡ whole → IsFaultOf f (set.union skipped (interval e.gtid.source (lo + 1) (e.gtid.number - 1))) → IsPartFault whole f
-fault_of_step f entries rest i e skipped whole last lo left low so_far h =
-    let next = set.union skipped (interval e.gtid.source (number_before last e.gtid.source + 1) (e.gtid.number - 1)) in
-    let all : skips_from next (Some e.gtid) (map as_pair rest) ≡ whole = ap (λ es. skips_from skipped last (map as_pair es)) (sym left) ∙ so_far in
-    fault_of_part f next whole
-    (subst (IsWithin next) all (within_skips next (Some e.gtid) (map as_pair rest)))
-    (subst (λ n. IsFaultOf f (set.union skipped (interval e.gtid.source (n + 1) (e.gtid.number - 1)))) low h)
+module _ (entries rest : List Entry) (i : ℕ) (e : Entry) (skipped whole : Gtids) (last : Option Gtid) (lo : ℕ) (left : drop i entries ≡ e ∷ rest) (low : lo ≡ number_before last e.gtid.source) (so_far : skips_from skipped last (map as_pair (drop i entries)) ≡ whole) (few : interval_count skipped ≤ i) where
+  abbrev next : Gtids
+  next = set.union skipped (interval e.gtid.source (lo + 1) (e.gtid.number - 1))
+
+  next_skips : skips_from next (Some e.gtid) (map as_pair rest) ≡ whole
+  next_skips =
+      ap (λ n. skips_from (set.union skipped (interval e.gtid.source (n + 1) (e.gtid.number - 1))) (Some e.gtid) (map as_pair rest)) low
+      ∙ ap (λ es. skips_from skipped last (map as_pair es)) (sym left) ∙ so_far
+
+  next_few : interval_count next ≤ i + 1
+  next_few = let more = union_interval_few skipped e.gtid.source (lo + 1) (e.gtid.number - 1) in omega (arith, few, more)
+
+  pub step_skips : (new : Gtids) → new ≡ next → (skips_from new (Some e.gtid) (map as_pair rest) ≡ whole) × (interval_count new ≤ i + 1)
+  step_skips new is = (ap (λ s. skips_from s (Some e.gtid) (map as_pair rest)) is ∙ next_skips, subst (λ s. interval_count s ≤ i + 1) (sym is) next_few)
+
+  pub fault_of_step : (f : SetFault) → i < length entries → IsFaultOf f next → IsFaultWithin whole (length entries) f
+  fault_of_step f below h =
+      fault_map f
+      (many_sources next whole (subst (IsWithin next) next_skips (within_skips next (Some e.gtid) (map as_pair rest))))
+      (λ many. let few = next_few in omega (arith, below, few, many))
+      h
+
+-- the set of one GTID is not refused for its size
+pub fault_of_one : (f : SetFault) (s : Gtids) (g : Gtid) → set.contains s g ≡ true → IsFaultOf f (set.insert set.empty g) → IsFaultOf f s
+fault_of_one f s g there h =
+    fault_map f
+    (many_sources (set.insert set.empty g) s (λ q e. ap (set.contains s) (same_is_equal q g (sym (in_one g q) ∙ e)) ∙ there))
+    (λ many. let few = insert_few set.empty g in let none = no_intervals in absurd (omega (arith, few, none, many)))
+    h
+
+-- nor is what is left without it, where it begins a run
+pub fault_of_rest : {T : Type 0} (r : Result T SetFault) (s one : Gtids) (g : Gtid) → one ≡ set.insert set.empty g → set.contains s g ≡ true → has_before s g ≡ false → IsCrowdedExactly r (set.difference s one) → IfErr r (λ f. IsFaultOf f s)
+fault_of_rest (Ok x) s one g is there begins h = tt
+fault_of_rest (Err Memory) s one g is there begins h = tt
+fault_of_rest (Err PoolFull) s one g is there begins h = let few = without_few s g there begins in let same = ap (λ x. interval_count (set.difference s x)) is in omega (arith, few, same, h)
+fault_of_rest (Err SourcesFull) s one g is there begins h = absurd h
 
 -- ---- of a world
 
-pub missing_within : (world : World) (journals : List JournalValue) → IsWithin (missing_in world journals) (skipped_in world journals)
-missing_within world journals = within_difference (skipped_in world journals) world.opening_set
+missing_few : (world : World) (journals : List JournalValue) → interval_count (missing_in world journals) ≤ intervals_of world.opening_set journals
+missing_few world journals =
+    let left = difference_few (skipped_in world journals) world.opening_set in
+    let skipped = skips_few set.empty None (present world journals) in
+    let none = no_intervals in
+    let few = present_few world journals in
+    omega (arith, left, skipped, none, few)
+
+pub fault_of_missing : (f : SetFault) (world : World) (journals : List JournalValue) → IsFaultOf f (missing_in world journals) → IsListFault world journals f
+fault_of_missing f world journals h =
+    fault_map f
+    (many_sources (missing_in world journals) (skipped_in world journals) (within_difference (skipped_in world journals) world.opening_set))
+    (λ many. let few = missing_few world journals in omega (arith, few, many))
+    h
+
+pub fault_of_difference : {T : Type 0} (r : Result T SetFault) (world : World) (journals : List JournalValue) (s t : Gtids) → set.difference s t ≡ missing_in world journals → IsCrowdedExactly r (set.difference s t) → IfErr r (IsListFault world journals)
+fault_of_difference (Ok x) world journals s t is h = tt
+fault_of_difference (Err Memory) world journals s t is h = tt
+fault_of_difference (Err PoolFull) world journals s t is h = let few = missing_few world journals in let same = ap interval_count is in omega (arith, few, same, h)
+fault_of_difference (Err SourcesFull) world journals s t is h = absurd h
+
+-- the set that the verdict would name
+pub fault_of_purged : (f : SetFault) (world : World) (journals : List JournalValue) → IsAuditFault world.opening_set journals f → IsListFault world journals f
+fault_of_purged f world journals h = fault_map f (λ none. absurd none) (λ lacks. lacks_few world.opening_set journals lacks) h
+
+-- the missing GTID of the verdict begins a run of missing ones
+pub verdict_begins : (world : World) (journals : List JournalValue) (g : Gtid) → Missing g ≡ verdict world journals → has_before (missing_in world journals) g ≡ false
+verdict_begins world journals g is = false_from_ne_true (has_before (missing_in world journals) g) (λ h.
+    let parts = and_parts (not (g.number == 0)) (set.contains (missing_in world journals) (gtid g.source (g.number - 1))) h in
+    missing_is_least world journals g (found_missing world journals g is) (gtid g.source (g.number - 1)) (in_set_missing world journals (gtid g.source (g.number - 1)) parts.1) (before_less g (not-true (g.number == 0) parts.0)))
+  where
+    before_less : (g : Gtid) → (g.number == 0) ≡ false → gtid_cmp (gtid g.source (g.number - 1)) g ≡ Less
+    before_less g e =
+        let less : g.number - 1 < g.number = grind (arith, nat_tests) in
+        sym (λ i. ordering_then (nat_cmp_is g.source g.source Equal refl i) (nat_cmp_is (g.number - 1) g.number Less less i))
 
 -- where none is missing the set is empty
 pub none_in_set : (world : World) (journals : List JournalValue) → ((g : Gtid) → IsMissing world journals g → ⊥) → set.empty ≡ missing_in world journals
@@ -102,3 +163,10 @@ but_other _ s n = refl
 pub skips_brought : (world : World) (journals : List JournalValue) (entries : List Entry) (contents : Contents) → entries ≡ in_order contents → contents ≡ first_contents world.opening_set (all_entries journals)
     → skips_from set.empty None (map as_pair entries) ≡ skipped_in world journals
 skips_brought world journals entries contents listed brought = ap (skips_from set.empty None) (pairs_of entries contents listed ∙ ap finmap.entries brought)
+
+pub pass_fault : (f : SetFault) (world : World) (journals : List JournalValue) (entries : List Entry) (contents : Contents) → entries ≡ in_order contents → contents ≡ first_contents world.opening_set (all_entries journals)
+    → IsFaultWithin (skips_from set.empty None (map as_pair entries)) (length entries) f → IsListFault world journals f
+pass_fault f world journals entries contents listed brought h =
+    let long : length entries ≡ length (present world journals) = sym (length-map entries as_pair) ∙ ap length (pairs_of entries contents listed ∙ ap finmap.entries brought) in
+    let few = present_few world journals in
+    fault_map f (subst HasManySources (skips_brought world journals entries contents listed brought)) (λ many. omega (arith, long, few, many)) h

@@ -26,15 +26,16 @@ use Rattle.source_history.proofs.Alone.{source_closed}
 use Rattle.source_history.proofs.Entries.{IsAscending, AreFound, rising, found, apart_sources}
 use Rattle.world.specs.declared.verdict.Verdict.{Verdict}
 use Rattle.world.specs.declared.verdict.Verdict.TheVariants.{Unequal, Purged, Missing, Shared, NotClosed, DoesNotApply, Sound}
-use Rattle.world.specs.Search.{or_next, when, first_at}
+use Rattle.world.specs.Search.{or_next}
 use Rattle.world.specs.Audit.{unequal, purged, present, below, missing, shared, not_closed, fault_after, first_fault, does_not_apply, found_in_keys, verdict}
-use Rattle.world.proofs.Finding.{next_none, next_some, when_some, first_some, below_test}
+use Rattle.world.proofs.Finding.{next_none, below_test}
 use Rattle.world.proofs.Gaps.{number_lt}
 use Rattle.world.proofs.Leasts.{first_source_fails}
 use Rattle.world.proofs.OnePass.{agree_after, rising_parts, source_le}
 use Rattle.world.proofs.Saying.{fault_free}
 use Rattle.audit.specs.OtherRefusals.{refused_alone, IsRefusalNamed, is_of_refusal, is_refusal, is_greater_refusal, AreRefusalsAscending, AreOtherRefusals, refused_or, refused_from, other_refusals}
 use Rattle.audit.specs.Worlds.{LieBeyond}
+use Rattle.audit.proofs.FoundKinds.{IsNever, first_kind, when_kind, next_kind}
 use Rattle.audit.proofs.Sounding.{filled, filled_sound}
 
 -- ---- lists in two parts
@@ -272,27 +273,14 @@ module _ (world : World) (sound : AreKeysSound world) where
 
 -- ---- the verdict
 
--- what is found is no refusal
-abbrev NoRefusal : Option Verdict → Type 0
-NoRefusal o = (v : Verdict) → o ≡ Some v → is_refusal v ≡ false
-
-first_kind : {A : Type 0} (f : ℕ → A → Option Verdict) (xs : List A) → ((i : ℕ) (x : A) → NoRefusal (f i x)) → NoRefusal (first_at f xs)
-first_kind f xs h v e = let r = first_some f xs v e in h r.place r.element v r.gives
-
-when_kind : (b : Bool) (y : Verdict) → is_refusal y ≡ false → NoRefusal (when b y)
-when_kind b y h v e = ap is_refusal (sym (when_some b y v e).1) ∙ h
-
-next_kind : (o p : Option Verdict) → NoRefusal o → NoRefusal p → NoRefusal (or_next o p)
-next_kind o p h g v e = elim (next_some o p v e) [ inl x ↦ h v x | inr y ↦ g v y.1 ]
-
-keys_kind : (world : World) (journals : List JournalValue) → NoRefusal (found_in_keys world journals)
+keys_kind : (world : World) (journals : List JournalValue) → IsNever is_refusal (found_in_keys world journals)
 keys_kind world journals =
-    next_kind (unequal world journals) _ (first_kind _ journals (λ i j. first_kind _ j.entries (λ k e. when_kind _ (Unequal e.gtid) refl)))
-    (next_kind (purged world journals) _ (first_kind _ journals (λ i j. when_kind _ (Purged i (set.difference j.previous world.opening_set)) refl))
-    (next_kind (missing world journals) _ (first_kind _ (present world journals) (λ i g. first_kind _ (below g.0) (λ k h. when_kind _ (Missing h) refl)))
-    (next_kind (shared world) (not_closed world journals)
-    (first_kind _ (finmap.entries world.contents) (λ i h. first_kind _ (write_set world.schema h.1) (λ k key. first_kind _ (finmap.entries world.contents) (λ l g. when_kind _ (Shared g.0 h.0 key) refl))))
-    (first_kind _ journals (λ i j. first_kind _ j.entries (λ k e. first_kind _ (finmap.entries world.contents) (λ l h. when_kind _ (NotClosed e.gtid h.0) refl)))))))
+    next_kind is_refusal (unequal world journals) _ (first_kind is_refusal _ journals (λ i j. first_kind is_refusal _ j.entries (λ k e. when_kind is_refusal _ (Unequal e.gtid) refl)))
+    (next_kind is_refusal (purged world journals) _ (first_kind is_refusal _ journals (λ i j. when_kind is_refusal _ (Purged i (set.difference j.previous world.opening_set)) refl))
+    (next_kind is_refusal (missing world journals) _ (first_kind is_refusal _ (present world journals) (λ i g. first_kind is_refusal _ (below g.0) (λ k h. when_kind is_refusal _ (Missing h) refl)))
+    (next_kind is_refusal (shared world) (not_closed world journals)
+    (first_kind is_refusal _ (finmap.entries world.contents) (λ i h. first_kind is_refusal _ (write_set world.schema h.1) (λ k key. first_kind is_refusal _ (finmap.entries world.contents) (λ l g. when_kind is_refusal _ (Shared g.0 h.0 key) refl))))
+    (first_kind is_refusal _ journals (λ i j. first_kind is_refusal _ j.entries (λ k e. first_kind is_refusal _ (finmap.entries world.contents) (λ l h. when_kind is_refusal _ (NotClosed e.gtid h.0) refl)))))))
 
 from_application : (world : World) (journals : List JournalValue) (g : Gtid) (fault : RowFault) → DoesNotApply g fault ≡ verdict world journals
     → (found_in_keys world journals ≡ None) × (does_not_apply world ≡ Some (DoesNotApply g fault))

@@ -1,5 +1,5 @@
 -- What an audit lists after its verdict.
-use Rattle.std.specs.Prelude.{◌≡◌, ◌≢◌, ◌⊎◌, ℕ, ◌+◌, ◌-◌, Bool, true, false, not, ◌&&◌, ◌||◌, ◌==◌, nat_lt, List, [], ◌∷◌, ◌++◌, Option, Some, None, if◌then◌else◌}
+use Rattle.std.specs.Prelude.{◌≡◌, ◌≢◌, ℕ, ◌+◌, ◌-◌, Bool, true, false, not, ◌&&◌, ◌||◌, ◌==◌, nat_lt, List, [], ◌∷◌, ◌++◌, Option, Some, None, if◌then◌else◌}
 use Rattle.std.specs.List.{list_any, AllByRecursion}
 use Rattle.std.specs.FinMap as finmap
 use Rattle.std.specs.FinSet as set
@@ -8,7 +8,6 @@ use Rattle.gtid_text.specs.declared.Gtid.{Gtid}
 use Rattle.gtid_text.specs.Gtids.{gtid_cmp, same_gtid}
 use Rattle.gtid_set.specs.Sets.{Gtids, interval}
 use Rattle.gtid_set.specs.declared.fault.SetFault.{SetFault}
-use Rattle.gtid_set.specs.Full.{HasManySources, HasManyIntervals, IsMemoryOr}
 use Rattle.rows.specs.declared.change.Key.{Key}
 use Rattle.rows.specs.declared.schema.Table.{Table}
 use Rattle.rows.specs.Order.{key_eq}
@@ -23,7 +22,7 @@ use Rattle.world.specs.Audit.{present, verdict}
 use Rattle.world.specs.Cases.{IsPurged, IsMissing, IsShared}
 use Rattle.world.specs.Folds.{FirstTouch, touched_by, shares_with}
 use Rattle.audit.specs.declared.listing.AllFaults.{AllFaults}
-use Rattle.audit.specs.Faults.{LacksMany}
+use Rattle.audit.specs.Faults.{intervals_of, IsFaultWithin}
 use Rattle.audit.specs.Missing.{number_before}
 use Rattle.audit.specs.OtherGaps.{AreOtherGaps, other_gaps}
 use Rattle.audit.specs.OtherRefusals.{AreOtherRefusals, other_refusals}
@@ -144,20 +143,6 @@ abbrev pub but_missing : Verdict → Gtids → Gtids
 but_missing (Missing g) gtids = set.difference gtids (set.insert set.empty g)
 but_missing _ gtids = gtids
 
--- these are some of the GTIDs that a set has
-abbrev pub IsWithin : Gtids → Gtids → Type 0
-IsWithin part whole = (g : Gtid) → set.contains part g ≡ true → set.contains whole g ≡ true
-
--- some of these GTIDs have too many sources, or intervals
-pub record HasPart (Many : Gtids → Type 0) (whole : Gtids) : Type 0 where
-  pub part : Gtids
-  pub within : IsWithin part whole
-  pub many : Many part
-
--- memory was refused, or some of these GTIDs have too many sources, or too many intervals
-abbrev pub IsPartFault : Gtids → SetFault → Type 0
-IsPartFault whole f = IsMemoryOr (HasPart HasManySources whole) (HasPart HasManyIntervals whole) f
-
 -- ---- journals
 
 -- the verdict reports a journal that begins after the opening set, with what is missing
@@ -238,7 +223,7 @@ pub record AreAll (world : World) (journals : List JournalValue) (all : Faults) 
 abbrev pub FaultsAreAll : Type 0
 FaultsAreAll = (world : World) (journals : List JournalValue) → LieBeyond world.opening_set world.contents → AreAll world journals (faults_of world journals)
 
--- memory was refused, or the missing GTIDs have too many sources, or they or what some previous set has outside the opening set too many intervals
+-- Memory was refused; or the numbers that are passed over are of too many sources; or the intervals of the opening set and of the previous sets
+-- and the entries together are too many.
 abbrev pub IsListFault : World → List JournalValue → SetFault → Type 0
-IsListFault world journals f =
-    IsMemoryOr (HasPart HasManySources (skipped_in world journals)) (LacksMany world.opening_set journals ⊎ HasPart HasManyIntervals (skipped_in world journals)) f
+IsListFault world journals f = IsFaultWithin (skipped_in world journals) (intervals_of world.opening_set journals) f

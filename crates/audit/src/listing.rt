@@ -97,8 +97,9 @@ impl World {
 /// The verdict of `audit`, and after it each other GTID under which journals differ from the world, each other journal
 /// that begins after the opening set, each other missing GTID, each other shared key, each other GTID that
 /// is present without what it needs and each other source whose transactions do not apply (`faults_are_all`).
-/// `SourcesFull` and `PoolFull` come only where missing GTIDs have too many sources or intervals, or what a
-/// journal's previous set has outside the opening set too many intervals.
+/// `SourcesFull` comes only where the numbers that are passed over, missing or executed from the start, are of too
+/// many sources; `PoolFull` only where the intervals of the opening set and of the previous sets and the entries
+/// together are too many.
 pub fn audit_all(alloc: Global, world: &World, journals: &[Journal]) -> Result<AllFaults, SetFault>
     ensures found { IfOk result (λ all. HoldsFaults all (faults_of world.now journals.now)) }
     ensures fault { IfErr result (IsListFault world.now journals.now) }

@@ -1,11 +1,16 @@
 //! The GTIDs that are missing, as a set.
-ghost use Rattle.std.specs.Prelude.{◌≡◌, ◌+◌, ◌-◌, IfOk, IfErr, OnOk, None, map, true};
+ghost use Rattle.std.specs.Prelude.{◌≡◌, ◌+◌, ◌-◌, IfOk, IfErr, OnOk, None, map, length, true, false};
 ghost use Rattle.std.specs.FinSet as set;
+ghost use Rattle.gtid_text.specs.declared.Gtid.{Gtid};
+ghost use Rattle.gtid_set.specs.Edges.{has_before};
 ghost use Rattle.gtid_set.specs.Full.{IsFaultOf};
 ghost use Rattle.gtid_set.specs.Sets.{interval};
+ghost use Rattle.world.specs.Audit.{verdict};
+ghost use Rattle.world.specs.declared.verdict.Verdict.TheVariants.{Missing};
 ghost use Rattle.audit.specs.Contents.{as_pair};
+ghost use Rattle.audit.specs.Faults.{IsFaultWithin};
 ghost use Rattle.audit.specs.Ordered.{AreInOrder};
-ghost use Rattle.audit.specs.Others.{IsPartFault, but_missing, missing_in, skipped_in, skips_from};
+ghost use Rattle.audit.specs.Others.{IsListFault, but_missing, missing_in, skipped_in, skips_from};
 
 use crate::missing::number_before;
 use crate::sources::World;
@@ -38,7 +43,7 @@ fn add_between(
 /// The numbers that are passed over before these entries.
 fn skipped_before(alloc: Global, entries: &[Entry]) -> Result<GtidSet, SetFault>
     ensures ok { IfOk result (λ skipped. skipped ≡ skips_from set.empty None (map as_pair entries.now)) }
-    ensures fault { IfErr result (IsPartFault (skips_from set.empty None (map as_pair entries.now))) }
+    ensures fault { IfErr result (IsFaultWithin (skips_from set.empty None (map as_pair entries.now)) (length entries.now)) }
 {
     let mut skipped = GtidSet::empty(alloc);
     let mut last = None;
@@ -60,20 +65,22 @@ fn only(alloc: Global, gtid: Gtid) -> Result<GtidSet, SetFault>
     Ok(one)
 }
 
-/// A set without one of its GTIDs.
+/// A set without one of its GTIDs, which begins a run of them: so it gets no more runs.
 fn take_out(alloc: Global, missing: &GtidSet, gtid: Gtid) -> Result<GtidSet, SetFault>
-    requires { set.contains missing.now gtid ≡ true }
+    requires there { set.contains missing.now gtid ≡ true }
+    requires begins { has_before missing.now gtid ≡ false }
     ensures ok { IfOk result (λ rest. rest ≡ set.difference missing.now (set.insert set.empty gtid)) }
-    ensures fault { IfErr result (IsPartFault missing.now) }
+    ensures fault { IfErr result (λ f. IsFaultOf f missing.now) }
 {
     let one = only(alloc, gtid)?;
     missing.subtract(alloc, &one)
 }
 
-/// Missing GTIDs but for that of the verdict.
+/// Missing GTIDs but for that of the verdict, which begins a run of them.
 fn without_verdict(alloc: Global, missing: GtidSet, verdict: &Verdict) -> Result<GtidSet, SetFault>
+    requires begins { (g : Gtid) → verdict.now ≡ Missing g → has_before missing g ≡ false }
     ensures ok { IfOk result (λ rest. rest ≡ but_missing verdict.now missing) }
-    ensures fault { IfErr result (IsPartFault missing) }
+    ensures fault { IfErr result (λ f. IsFaultOf f missing) }
 {
     if let Verdict::Missing(gtid) = verdict {
         if missing.contains(gtid) {
@@ -87,7 +94,7 @@ impl World {
     /// The numbers that are passed over before what is in the journals.
     fn skipped_numbers(&self, alloc: Global, journals: &[Journal]) -> Result<GtidSet, SetFault>
         ensures ok { IfOk result (λ skipped. skipped ≡ skipped_in self.now journals.now) }
-        ensures fault { IfErr result (IsPartFault (skipped_in self.now journals.now)) }
+        ensures fault { IfErr result (IsListFault self.now journals.now) }
     {
         let equal = self.find_unequal(journals).is_none();
         match self.first_contents(alloc, journals, equal)? {
@@ -105,7 +112,7 @@ impl World {
     ) -> Result<GtidSet, SetFault>
         requires { ordered ≡ true → AreInOrder self.now.opening_set journals.now }
         ensures ok { IfOk result (λ missing. missing ≡ missing_in self.now journals.now) }
-        ensures fault { IfErr result (IsPartFault (skipped_in self.now journals.now)) }
+        ensures fault { IfErr result (IsListFault self.now journals.now) }
     {
         if ordered {
             return Ok(GtidSet::empty(alloc));
@@ -120,13 +127,14 @@ impl World {
         alloc: Global,
         journals: &[Journal],
         ordered: bool,
-        verdict: &Verdict,
+        first: &Verdict,
     ) -> Result<GtidSet, SetFault>
-        requires { ordered ≡ true → AreInOrder self.now.opening_set journals.now }
-        ensures ok { IfOk result (λ rest. rest ≡ but_missing verdict.now (missing_in self.now journals.now)) }
-        ensures fault { IfErr result (IsPartFault (skipped_in self.now journals.now)) }
+        requires ordered { ordered ≡ true → AreInOrder self.now.opening_set journals.now }
+        requires first { first.now ≡ verdict self.now journals.now }
+        ensures ok { IfOk result (λ rest. rest ≡ but_missing first.now (missing_in self.now journals.now)) }
+        ensures fault { IfErr result (IsListFault self.now journals.now) }
     {
         let missing = self.missing_set(alloc, journals, ordered)?;
-        without_verdict(alloc, missing, verdict)
+        without_verdict(alloc, missing, first)
     }
 }

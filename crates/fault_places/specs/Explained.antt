@@ -72,7 +72,7 @@ row_fault_meaning (DuplicateKey change key) = codes "  E12: a row has this key o
 abbrev pub verdict_explained : List (List ℕ) → BundleValue → Option Gtids → Verdict → List ℕ
 verdict_explained lines b gtids (Unequal g) = places_of (gtid_text g) Every lines ++ difference_under g b
 verdict_explained lines b gtids (Purged i purged) = previous_sets lines
-verdict_explained lines b gtids (Missing g) = missing_text gtids ++ next_text (next_there g None b.journals) lines
+verdict_explained lines b gtids (Missing g) = missing_text gtids ++ next_text (next_there b.opened g None b.journals) lines
 verdict_explained lines b gtids (Shared g h key) = key_explained g h key lines
 verdict_explained lines b gtids (Reordered g h key) = key_explained g h key lines
 verdict_explained lines b gtids (Concurrent g h key) = key_explained g h key lines

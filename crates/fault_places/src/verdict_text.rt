@@ -206,7 +206,8 @@ fn put_verdict(
         Verdict::Purged(_, _) => put_previous_sets(out, lines),
         Verdict::Missing(gtid) => {
             put_missing(alloc, out, missing)?;
-            put_next(alloc, out, &next_there(gtid, bundle.journals()), lines)
+            let next = next_there(bundle.opening_set(), gtid, bundle.journals());
+            put_next(alloc, out, &next, lines)
         }
         Verdict::Shared(a, b, key)
         | Verdict::Reordered(a, b, key)

@@ -43,9 +43,13 @@ words_of line = cut_again (cut line)
 abbrev pub set_of_word : List ℕ → Result Gtids Fault
 set_of_word word = if bytes_eq word (codes "-") then Ok (set.empty) else set_word word
 
+-- the source that a word names. A UUID has 36 characters, so a word of so many has no blank round it.
+abbrev pub source_of_word : List ℕ → Result SourceId Fault
+source_of_word word = if length word == 36 then source_word word else Err (Refused Usage)
+
 abbrev pub server_of_words : Option (List ℕ × List ℕ × List ℕ) → Result ServerValue Fault
 server_of_words None = Err (Refused Usage)
-server_of_words (Some w) = source_word w.1 >>= λ source. set_of_word w.2 >>= λ executed. Ok (record { name = w.0; source = source; executed = executed })
+server_of_words (Some w) = source_of_word w.1 >>= λ source. set_of_word w.2 >>= λ executed. Ok (record { name = w.0; source = source; executed = executed })
 
 -- the server that a line names
 abbrev pub server_of : List ℕ → Result ServerValue Fault

@@ -2,13 +2,16 @@
 ghost use Rattle.std.specs.Prelude.{◌≡◌, ◌++◌, ◌∷◌, [], IfOk, OnOk, map, option_map};
 ghost use Rattle.std.specs.Str.Lines.{lines};
 ghost use Rattle.gtid_report.specs.SetAnswers.{Answers};
-ghost use Rattle.server_states.specs.Servers.{words_of, set_of_word, server_of, fault_at_line, at_line, servers_behind, servers_in};
+ghost use Rattle.server_states.specs.Servers.{words_of, source_of_word, set_of_word, server_of, fault_at_line, at_line, servers_behind, servers_in};
 
 use gtid_report::{Fault, LineCause, Refusal, read_set, read_source};
 use gtid_set::GtidSet;
 use gtid_text::SourceId;
 use std::alloc::{AllocError, Global};
 use std::marker::Model;
+
+/// The characters of a UUID (RFC 9562).
+const UUID_LENGTH: usize = 36;
 
 /// A server, and what it has executed.
 #[derive(Drop)]
@@ -66,6 +69,17 @@ fn words_of(line: &str) -> Option<(&str, &str, &str)>
     Some((name, source, set))
 }
 
+/// The source of a word; blanks round its UUID are no part of it.
+fn source_of_word(word: &str) -> Result<SourceId, Fault>
+    ensures { Answers (λ s. s) result (source_of_word word.now) }
+{
+    if word.len() == UUID_LENGTH {
+        read_source(word)
+    } else {
+        Err(Fault::Refused(Refusal::Usage))
+    }
+}
+
 /// The set of a word; a hyphen is the empty set.
 fn set_of_word(alloc: Global, word: &str) -> Result<GtidSet, Fault>
     ensures { Answers (λ s. s) result (set_of_word word.now) }
@@ -83,7 +97,7 @@ fn server_of(alloc: Global, line: &str) -> Result<Server, Fault>
     let Some((name, source, set)) = words_of(line) else {
         return Err(Fault::Refused(Refusal::Usage));
     };
-    let source = read_source(source)?;
+    let source = source_of_word(source)?;
     let executed = set_of_word(alloc, set)?;
     let name = String::from_str(alloc, name)?;
     Ok(Server {
@@ -112,7 +126,7 @@ fn lines_of(alloc: Global, text: &str) -> Result<Vec<&str>, AllocError>
     text.lines().collect(alloc)
 }
 
-/// The servers that the lines of a text name, in order. A line has a name, a UUID and a set, a blank between; a hyphen is the empty set.
+/// The servers that the lines of a text name, in order. A line has a name, a UUID and a set, one space between; a hyphen is the empty set.
 /// The first line that is none is refused by its number, from 1; a set with too many sources or intervals is refused for that.
 pub fn read_servers(alloc: Global, text: &str) -> Result<Vec<Server>, Fault>
     ensures { Answers (λ servers. servers.items) result (servers_in text.now) }

@@ -14,10 +14,10 @@ use Rattle.gtid_text.specs.declared.Gtid.{Gtid}
 use Rattle.gtid_text.specs.Gtids.{same_gtid}
 use Rattle.gtid_text.proofs.SameGtid.{same_itself, same_is_equal, gtid_total}
 use Rattle.gtid_set.specs.declared.fault.SetFault.{SetFault}
-use Rattle.gtid_set.specs.Full.{interval_count, most_intervals, IsFaultOf}
+use Rattle.gtid_set.specs.Full.{most_intervals, IsFaultOf}
 use Rattle.gtid_set.specs.Edges.{next_to, ends_of, HasEdges, HasEnds, AreManyEdges}
 use Rattle.gtid_set.specs.Runs.{runs}
-use Rattle.gtid_set.proofs.EdgeLemmas.{contains-listed, length-ends, len-listed, many_edges, moved_edges, members_edges, listed_edges, empty_edges, union_edges, insert_edges, difference_few}
+use Rattle.gtid_set.proofs.EdgeLemmas.{contains-listed, length-ends, len-listed, many_edges, moved_edges, members_edges, listed_edges, empty_edges, union_edges, insert_edges}
 use Rattle.gtid_set.proofs.RunLemmas.{among as is_listed}
 use Rattle.gtid_set.proofs.FaultLemmas.{fault_map, memory_fault}
 use Rattle.gtid_set.specs.Sets.{Gtids}
@@ -28,7 +28,8 @@ use Rattle.journal.specs.declared.Entry.{Entry}
 use Rattle.journal.specs.Journals.{JournalValue, whole}
 use Rattle.journal.specs.Edges.{HasEndsOf}
 use Rattle.auto_position.specs.Sending.{IsPlanFault}
-use Rattle.audit.specs.Faults.{IsAuditFault}
+use Rattle.audit.specs.Faults.{IsAuditFault, intervals_of}
+use Rattle.audit.proofs.Counting.{lacks_few}
 use Rattle.apply_channel.specs.Channels.{ChannelValue, Received, received_gtids}
 use Rattle.apply_channel.specs.Full.{gtids_with}
 use Rattle.replica_core.specs.declared.event.Event.{Event}
@@ -52,7 +53,7 @@ use Rattle.txn_journal.specs.BundleStates.{BundleValue}
 use Rattle.txn_journal.specs.declared.bundle.BundleChannel.{BundleChannel}
 use Rattle.serving.specs.declared.receiving.Apply.{Apply}
 use Rattle.serving.specs.declared.receiving.Apply.TheVariants.{AtOnce}
-use Rattle.serving.specs.Faults.{Cover, IsFaultWhere, HasGtid, HasSet, IsReceived, Knows, HasEntries, KnowsWith, HasJournal, KnowsToo, intervals_of, IsBundleFault, IsVerdictFault}
+use Rattle.serving.specs.Faults.{Cover, IsFaultWhere, HasGtid, HasSet, IsReceived, Knows, HasEntries, KnowsWith, HasJournal, KnowsToo, IsBundleFault, IsVerdictFault}
 use Rattle.serving.specs.declared.order.Order.{Order}
 use Rattle.serving.specs.Serving.{run, IsBetween, IsFeed, Applies, Receives, with_opened, Asks, ServesOne, ServesEach, opening, IsServed, IsRun}
 use Rattle.serving.proofs.Conditions.{sent_all}
@@ -372,30 +373,10 @@ plan_fault f s j asked is h = fault_map f (λ none. absurd none) (λ many cover 
 
 -- ---- the verdict of an audit
 
-no_fewer : (n : ℕ) → n ≤ n
-no_fewer n = omega arith
-
-opening_few : (opened : Gtids) (js : List JournalValue) → interval_count opened ≤ intervals_of opened js
-opening_few opened [] = no_fewer (interval_count opened)
-opening_few opened (j ∷ js) = let rest = opening_few opened js in omega (arith, rest)
-
-previous_few : (opened : Gtids) (js : List JournalValue) (i : ℕ) (j : JournalValue) → slice_get js i ≡ Some j → interval_count j.previous + interval_count opened ≤ intervals_of opened js
-previous_few opened [] i j at = none_some j at
-previous_few opened (k ∷ js) zero j at =
-    let same = ap (λ (x : JournalValue). interval_count x.previous) (same_Some k j at) in
-    let rest = opening_few opened js in
-    omega (arith, same, rest)
-previous_few opened (k ∷ js) (suc i) j at = let rest = previous_few opened js i j at in omega (arith, rest)
-
 pub verdict_fault : (f : SetFault) (b : BundleValue) (opened : Gtids) (journals : List JournalValue) → opened ≡ b.opened → journals ≡ b.journals → IsAuditFault opened journals f → IsVerdictFault b f
 verdict_fault f b opened journals o js h =
     fault_map f (λ none. none)
-    (λ lacks.
-    let few = difference_few lacks.journal.previous opened in
-    let sum = previous_few opened journals lacks.place lacks.journal lacks.at in
-    let many = lacks.many in
-    let all : intervals_of opened journals ≡ intervals_of b.opened b.journals = λ i. intervals_of (o i) (js i) in
-    omega (arith, few, sum, many, all))
+    (λ lacks. subst (λ (n : ℕ). most_intervals < n) (λ i. intervals_of (o i) (js i)) (lacks_few opened journals lacks))
     h
 
 pub verdict_bundle : (f : SetFault) (b : BundleValue) → IsVerdictFault b f → IsBundleFault b f

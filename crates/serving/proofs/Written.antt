@@ -16,9 +16,10 @@ use Rattle.journal.specs.declared.Entry.{Entry}
 use Rattle.journal.specs.Journals.{JournalValue}
 use Rattle.journal.specs.Writing.{is_value_writable, is_image_writable, is_change_writable, is_txn_writable, is_number, is_writable}
 use Rattle.apply_channel.specs.Channels.{most_received}
-use Rattle.serving.specs.Servable.{HaveChannels, FitsJournal, HasRoom, WrittenIsServable}
+use Rattle.serving.specs.Servable.{HaveChannels, FitsJournal, HasRoom, IsServable}
 use Rattle.txn_journal.specs.Machine.{is_row_of, are_rows_of, takes_change, fits}
-use Rattle.txn_journal.specs.BundleText.{AreNamed, AreBrought, entry_fits}
+use Rattle.txn_journal.specs.BundleStates.{BundleValue}
+use Rattle.txn_journal.specs.BundleText.{AreNamed, AreBrought, entry_fits, IsBundle}
 use Rattle.txn_journal.specs.declared.bundle.BundleChannel.{BundleChannel}
 use Rattle.std.proofs.lemmas.Bool.{and_parts}
 
@@ -123,9 +124,9 @@ as_many tables (c ∷ cs) (j ∷ js) h = let rest = as_many tables cs js h.1 in 
 
 -- ---- a bundle
 
-pub written_servable : WrittenIsServable
-written_servable bytes b (version, due, w) =
-    let written = w.written in
+-- what the type of a bundle keeps is enough to serve it
+pub bundle_servable : (b : BundleValue) → IsBundle b → IsServable b
+bundle_servable b written =
     let all = all_fit b.start.schema b.channels b.journals written.brought in
     record {
       few = let many = as_many b.start.schema b.channels b.journals written.brought in let most = written.few in omega (arith, many, most);

@@ -1,14 +1,15 @@
 -- Why journals are not served.
-use Rattle.std.specs.Prelude.{◌≡◌, ℕ, ◌+◌, ◌<◌, true, List, [], ◌∷◌, length, slice_get, Some}
+use Rattle.std.specs.Prelude.{◌≡◌, ℕ, ◌<◌, true, List, slice_get, Some}
 use Rattle.std.specs.List.{AllByRecursion}
 use Rattle.std.specs.FinSet as set
 use Rattle.gtid_text.specs.declared.Gtid.{Gtid}
 use Rattle.gtid_set.specs.declared.fault.SetFault.{SetFault}
-use Rattle.gtid_set.specs.Full.{interval_count, most_intervals, HasManySources, IsMemoryOr}
+use Rattle.gtid_set.specs.Full.{most_intervals, HasManySources, IsMemoryOr}
 use Rattle.gtid_set.specs.Edges.{HasEdges, HasEnds, AreManyEdges}
 use Rattle.gtid_set.specs.Sets.{Gtids}
 use Rattle.journal.specs.declared.Entry.{Entry}
 use Rattle.journal.specs.Journals.{JournalValue}
+use Rattle.audit.specs.Faults.{intervals_of}
 use Rattle.apply_channel.specs.Channels.{ChannelValue, Received}
 use Rattle.replica_core.specs.State.{State}
 use Rattle.ordered_replicas.specs.Deciding.{all_of}
@@ -64,11 +65,6 @@ abbrev pub KnowsToo : State → List JournalValue → Cover → Type 0
 KnowsToo s journals cover = Knows s cover × AllByRecursion (HasJournal cover) journals
 
 -- ---- of a bundle
-
--- the intervals of the opening set and of the previous sets of all journals, and their entries
-abbrev pub intervals_of : Gtids → List JournalValue → ℕ
-intervals_of opened [] = interval_count opened
-intervals_of opened (j ∷ js) = (interval_count j.previous + length j.entries) + intervals_of opened js
 
 -- memory was refused; or the GTIDs of all journals together have too many sources; or their intervals and entries together are too many
 abbrev pub IsBundleFault : BundleValue → SetFault → Type 0

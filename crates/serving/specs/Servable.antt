@@ -11,7 +11,6 @@ use Rattle.journal.specs.Writing.{is_number}
 use Rattle.apply_channel.specs.Channels.{ChannelValue, same_name, most_received}
 use Rattle.replica_core.specs.State.{State, Replica}
 use Rattle.txn_journal.specs.BundleStates.{BundleValue, has_channel}
-use Rattle.txn_journal.specs.BundleText.{WritesBundle}
 use Rattle.txn_journal.specs.declared.bundle.BundleChannel.{BundleChannel}
 use Rattle.serving.specs.Verdicts.{names_of, names_asked}
 
@@ -45,10 +44,6 @@ pub record IsServable (b : BundleValue) : Type 0 where
 -- what was purged of each journal is in the opening set, so that its source sends it to the replica
 abbrev pub can_be_sent : BundleValue → Bool
 can_be_sent b = list_all (λ (j : JournalValue). set.is_subset j.previous b.opened) b.journals
-
--- a bundle that can be written, as each that was read can, can be served
-abbrev pub WrittenIsServable : Type 0
-WrittenIsServable = (bytes : List ℕ) (b : BundleValue) → WritesBundle bytes b → IsServable b
 
 -- ---- a replica
 

@@ -56,6 +56,11 @@ abbrev pub IsFoundInKeys : Order → BundleValue → Option Verdict → Type 0
 IsFoundInKeys order b None = keys_over order b ≡ Sound
 IsFoundInKeys order b (Some v) = IsUnsound order b v
 
+-- the verdict, where there is one, is that of the audit of keys
+abbrev pub IsOfKeys : Order → BundleValue → Option Verdict → Type 0
+IsOfKeys order b None = Unit {0}
+IsOfKeys order b (Some v) = v ≡ keys_over order b
+
 -- a channel's name, and whether its transactions commit in order
 abbrev pub Naming : Type 0
 Naming = List ℕ × Bool
@@ -92,3 +97,8 @@ module _ {S : Type 0} where
   abbrev pub IsStateOrVerdict : (S → Type 0) → Order → BundleValue → StateOrVerdict S → Type 0
   IsStateOrVerdict Holds order b (found.State s) = Holds s
   IsStateOrVerdict Holds order b (found.Verdict v) = IsUnsound order b v
+
+  -- the verdict, where there is one, is that of the audit of keys
+  abbrev pub IsVerdictOfKeys : Order → BundleValue → StateOrVerdict S → Type 0
+  IsVerdictOfKeys order b (found.State s) = Unit {0}
+  IsVerdictOfKeys order b (found.Verdict v) = v ≡ keys_over order b

@@ -7,9 +7,8 @@
 //! which is not Sound. Their parts only read the bundle and need nothing of one another, so that they may go side by side: the audit decides
 //! whether what was served counts. Serving asks only that no source has purged what the opening set lacks (`can_be_sent`).
 //!
-//! What a contract sees: the bundle as its value, and the replica. A bundle must be one that can be served (`IsServable`: at most 256
-//! journals, each with a channel of its own name and transactions that the tables take), and each bundle that was read is one
-//! (`written_is_servable`).
+//! What a contract sees: the bundle as its value, and the replica. Each bundle can be served, for its type keeps the rules of its format
+//! (`keeps_servable`; `IsServable`: at most 256 journals, each with a channel of its own name and transactions that the tables take).
 //!
 //! The contract of `conclude` holds for every replica that was served so and whose seats took, committed and rolled back in any order,
 //! until each channel is stopped or done: None only where the audit reports Sound, all journals are executed, and the rows are those that
@@ -33,6 +32,6 @@ pub use listing::faults_over;
 pub use order::Order;
 pub use outcome::{
     StateOrVerdict, apply_all, audit_of_keys, begin, can_be_sent, conclude, conclude_applied,
-    receive_all, serve, verdict_over, written_is_servable,
+    keeps_servable, receive_all, serve, verdict_over, world_of,
 };
 pub use receiving::entries_sent;

@@ -2,9 +2,8 @@
 ghost use Rattle.std.specs.Prelude.{IfOk, IfErr};
 ghost use Rattle.audit.specs.Others.{HoldsFaults};
 ghost use Rattle.serving.specs.Listing.{IsFaultsFault, faults_over};
-ghost use Rattle.serving.specs.Servable.{IsFitting};
 
-use crate::outcome::opening_world;
+use crate::outcome::world_of;
 use audit::{AllFaults, audit_all};
 use gtid_set::SetFault;
 use std::alloc::Global;
@@ -13,14 +12,13 @@ use txn_journal::Bundle;
 /// The verdict of `verdict_over`, and after it each other GTID under which journals differ, each other
 /// journal that begins after the opening set, each other missing GTID, each other shared key, each other
 /// GTID that is in a journal without what it needs and, where a transaction does not apply by the
-/// verdict, each other source of which one does not (`audit::faults_are_all`). What is required is as for
-/// `verdict_over`; the faults are those of `audit::audit_all`.
+/// verdict, each other source of which one does not (`audit::faults_are_all`). The faults are those of
+/// `audit::audit_all`.
 pub fn faults_over(alloc: Global, bundle: &Bundle) -> Result<AllFaults, SetFault>
-    requires { IsFitting bundle.now }
     ensures found { IfOk result (λ all. HoldsFaults all (faults_over bundle.now)) }
     ensures fault { IfErr result (IsFaultsFault bundle.now) }
 {
-    let world = opening_world(alloc, bundle)?;
+    let world = world_of(alloc, bundle)?;
     let found = audit_all(alloc, &world, bundle.journals());
     drop(world);
     found

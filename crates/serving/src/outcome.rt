@@ -6,12 +6,12 @@ ghost use Rattle.gtid_set.specs.declared.fault.SetFault.TheVariants.{Memory};
 ghost use Rattle.world.specs.Meaning.{AreJournals};
 ghost use Rattle.replica_core.specs.Draining.{AreStoppedOrDone};
 ghost use Rattle.serving.specs.Faults.{IsFaultWhere, KnowsToo, IsBundleFault, IsVerdictFault};
-ghost use Rattle.serving.specs.Servable.{IsFitting, IsServable, can_be_sent, CanServeEach, WrittenIsServable};
+ghost use Rattle.serving.specs.Servable.{IsServable, can_be_sent, CanServeEach};
 ghost use Rattle.serving.specs.Serving.{opening, ServesEach, IsServed, IsReady, IsRun, IsApplied};
 ghost use Rattle.serving.specs.declared.receiving.Apply.TheVariants.{Later};
 ghost use Rattle.world.specs.declared.verdict.Verdict.TheVariants.{Sound};
 ghost use Rattle.serving.specs.declared.order.Order.TheVariants.{BySource, ByConflict};
-ghost use Rattle.serving.specs.Verdicts.{is_sound, world_over, keys_over, verdict_over, IsFoundInKeys, IsStateOrVerdict, HasMerged, IsConcluded};
+ghost use Rattle.serving.specs.Verdicts.{is_sound, world_over, keys_over, verdict_over, IsFoundInKeys, IsOfKeys, IsStateOrVerdict, IsVerdictOfKeys, HasMerged, IsConcluded};
 
 use crate::order::Order;
 use crate::receiving::{Apply, serve_journals};
@@ -37,10 +37,12 @@ pub enum StateOrVerdict<S> {
     Verdict(Verdict),
 }
 
-/// A bundle that was read can be served. It does nothing: its contract is the law.
-pub fn written_is_servable()
-    ensures { WrittenIsServable }
-{}
+/// A bundle can be served, for its type keeps the rules of its format. It does nothing; a proof calls it for its contract.
+pub fn keeps_servable(bundle: &Bundle)
+    ensures { IsServable bundle.now }
+{
+    bundle.keeps_rules();
+}
 
 fn is_sound(verdict: &Verdict) -> bool
     ensures { result ≡ is_sound verdict.now }
@@ -60,11 +62,12 @@ fn keep_rules(journals: &[Journal])
     }
 }
 
-/// The world of journals over opening rows and an opening set.
-pub(crate) fn opening_world(alloc: Global, bundle: &Bundle) -> Result<World, AllocError>
-    requires { IsFitting bundle.now }
+/// The world of a bundle: its opening rows and opening set, and for each GTID of its journals the first content, in order of channels and
+/// entries.
+pub fn world_of(alloc: Global, bundle: &Bundle) -> Result<World, AllocError>
     ensures { IfOk result (λ world. world ≡ world_over bundle.now) }
 {
+    keeps_servable(bundle);
     world_of_fitting(
         alloc,
         bundle.opening_set(),
@@ -76,21 +79,20 @@ pub(crate) fn opening_world(alloc: Global, bundle: &Bundle) -> Result<World, All
 /// What the audit of the journals' keys finds first over the opening rows, where sources may share no key. Where that is nothing, no world
 /// is made.
 fn source_keys_verdict(alloc: Global, bundle: &Bundle) -> Result<Verdict, SetFault>
-    requires { IsFitting bundle.now }
     ensures found { IfOk result (λ found. found ≡ keys_over BySource bundle.now) }
     ensures fault { IfErr result (IsBundleFault bundle.now) }
 {
+    keeps_servable(bundle);
     let opened = bundle.opening_set();
     audit_keys_of(alloc, opened, bundle.rows(), bundle.journals())
 }
 
 /// What the audit of the journals' keys finds first over the opening rows, where transactions that share a key are in one order.
 fn conflict_keys_verdict(alloc: Global, bundle: &Bundle) -> Result<Verdict, SetFault>
-    requires { IsFitting bundle.now }
     ensures found { IfOk result (λ found. found ≡ keys_over ByConflict bundle.now) }
     ensures fault { IfErr result (IsBundleFault bundle.now) }
 {
-    let world = opening_world(alloc, bundle)?;
+    let world = world_of(alloc, bundle)?;
     let found = audit_keys_in_order(alloc, &world, bundle.journals());
     drop(world);
     found
@@ -98,7 +100,6 @@ fn conflict_keys_verdict(alloc: Global, bundle: &Bundle) -> Result<Verdict, SetF
 
 /// What an audit of the journals' keys over the opening rows finds first.
 fn keys_verdict(alloc: Global, bundle: &Bundle, order: Order) -> Result<Verdict, SetFault>
-    requires { IsFitting bundle.now }
     ensures found { IfOk result (λ found. found ≡ keys_over order bundle.now) }
     ensures fault { IfErr result (IsBundleFault bundle.now) }
 {
@@ -111,31 +112,28 @@ fn keys_verdict(alloc: Global, bundle: &Bundle, order: Order) -> Result<Verdict,
 /// What the audit finds first in a bundle's journals, where sources may share no key. Where one pass shows that the keys are sound, no
 /// world is made.
 fn source_verdict(alloc: Global, bundle: &Bundle) -> Result<Verdict, SetFault>
-    requires { IsFitting bundle.now }
     ensures found { IfOk result (λ found. found ≡ verdict_over BySource bundle.now) }
     ensures fault { IfErr result (IsVerdictFault bundle.now) }
 {
+    keeps_servable(bundle);
     let opened = bundle.opening_set();
     audit_of(alloc, opened, bundle.rows(), bundle.journals())
 }
 
 /// What the audit finds first in a bundle's journals, where transactions that share a key are in one order.
 fn conflict_verdict(alloc: Global, bundle: &Bundle) -> Result<Verdict, SetFault>
-    requires { IsFitting bundle.now }
     ensures found { IfOk result (λ found. found ≡ verdict_over ByConflict bundle.now) }
     ensures fault { IfErr result (IsVerdictFault bundle.now) }
 {
-    let world = opening_world(alloc, bundle)?;
+    let world = world_of(alloc, bundle)?;
     let found = audit_in_order(alloc, &world, bundle.journals());
     drop(world);
     found
 }
 
 /// What the audit that asks for an order finds first in a bundle's journals over its opening rows and
-/// opening set. The tables take the transactions, as those of a bundle that was read do. The error is a failed allocation, or `PoolFull`
-/// where the set that the verdict would name has too many intervals.
+/// opening set. The error is a failed allocation, or `PoolFull` where the set that the verdict would name has too many intervals.
 pub fn verdict_over(alloc: Global, bundle: &Bundle, order: Order) -> Result<Verdict, SetFault>
-    requires { IsFitting bundle.now }
     ensures found { IfOk result (λ found. found ≡ verdict_over order bundle.now) }
     ensures fault { IfErr result (IsVerdictFault bundle.now) }
 {
@@ -146,16 +144,15 @@ pub fn verdict_over(alloc: Global, bundle: &Bundle, order: Order) -> Result<Verd
 }
 
 /// What an audit of the journals' keys finds by an order, where that isn't Sound: the whole audit finds it too.
-/// It needs nothing of a replica, so that it may go on beside `receive_all` or `apply_all`. The tables take
-/// the transactions, as those of a bundle that was read do. The faults are those of `begin`.
+/// It needs nothing of a replica, so that it may go on beside `receive_all` or `apply_all`. The faults are those of `begin`.
 #[tactic(auto, using(crate::proofs::Runs::keys_found, crate::proofs::Runs::keys_sound))]
 pub fn audit_of_keys(
     alloc: Global,
     bundle: &Bundle,
     order: Order,
 ) -> Result<Option<Verdict>, SetFault>
-    requires { IsFitting bundle.now }
     ensures found { IfOk result (IsFoundInKeys order bundle.now) }
+    ensures keys { IfOk result (IsOfKeys order bundle.now) }
     ensures fault { IfErr result (IsBundleFault bundle.now) }
 {
     let keys = keys_verdict(alloc, bundle, order)?;
@@ -216,11 +213,11 @@ fn serve_each(alloc: Global, bundle: &Bundle, apply: Apply) -> Result<Core, SetF
 /// The replica of a bundle whose sources send their journals, once it was served all of them.
 #[tactic(auto, using(crate::proofs::Conditions::can_serve_all))]
 fn serve_all(alloc: Global, bundle: &Bundle, apply: Apply) -> Result<Core, SetFault>
-    requires can { IsServable bundle.now }
-    requires sent { can_be_sent bundle.now ≡ true }
+    requires { can_be_sent bundle.now ≡ true }
     ensures served { IfOk result (IsServed apply bundle.now) }
     ensures fault { IfErr result (IsBundleFault bundle.now) }
 {
+    keeps_servable(bundle);
     keep_rules(bundle.journals());
     serve_each(alloc, bundle, apply)
 }
@@ -228,8 +225,7 @@ fn serve_all(alloc: Global, bundle: &Bundle, apply: Apply) -> Result<Core, SetFa
 /// The replica of a bundle, once each channel was opened and positioned and has received what its journal sends.
 /// Nothing is applied, and the keys are not audited. The faults are those of `begin`.
 pub fn receive_all(alloc: Global, bundle: &Bundle) -> Result<Core, SetFault>
-    requires can { IsServable bundle.now }
-    requires sent { can_be_sent bundle.now ≡ true }
+    requires { can_be_sent bundle.now ≡ true }
     ensures received { IfOk result (IsServed Later bundle.now) }
     ensures fault { IfErr result (IsBundleFault bundle.now) }
 {
@@ -241,8 +237,7 @@ pub fn receive_all(alloc: Global, bundle: &Bundle) -> Result<Core, SetFault>
 /// are not audited. The faults are those of `begin`.
 #[tactic(auto, using(crate::proofs::Runs::is_applied))]
 pub fn apply_all(alloc: Global, bundle: &Bundle) -> Result<Core, SetFault>
-    requires can { IsServable bundle.now }
-    requires sent { can_be_sent bundle.now ≡ true }
+    requires { can_be_sent bundle.now ≡ true }
     ensures applied { IfOk result (IsApplied bundle.now) }
     ensures fault { IfErr result (IsBundleFault bundle.now) }
 {
@@ -253,16 +248,15 @@ pub fn apply_all(alloc: Global, bundle: &Bundle) -> Result<Core, SetFault>
 
 /// Audits the keys of a bundle's journals by an order, opens its replica over the opening rows and set, opens and positions
 /// each channel, and lets it receive what its journal sends. Where the audit of keys isn't Sound, the
-/// result is its verdict, which is that of the whole audit. The bundle can be served, as each that was
-/// read can.
+/// result is its verdict, which is that of the whole audit.
 ///
 /// `Memory` is a failed allocation, `SourcesFull` comes only where the GTIDs of all journals together are of
 /// more than 65,536 sources, and `PoolFull` only where the intervals of the opening set and of the
 /// previous sets and the entries are together more than 4,294,967,294.
 #[tactic(auto, using(crate::proofs::Conditions::sound_is_sent))]
 pub fn begin(alloc: Global, bundle: &Bundle, order: Order) -> Result<StateOrVerdict<Core>, SetFault>
-    requires { IsServable bundle.now }
     ensures begun { IfOk result (IsStateOrVerdict (IsReady order bundle.now) order bundle.now) }
+    ensures keys { IfOk result (IsVerdictOfKeys order bundle.now) }
     ensures fault { IfErr result (IsBundleFault bundle.now) }
 {
     if let Some(verdict) = audit_of_keys(alloc, bundle, order)? {
@@ -281,7 +275,6 @@ pub fn conclude(
     order: Order,
     core: &Core,
 ) -> Result<Option<Verdict>, SetFault>
-    requires fits { IsFitting bundle.now }
     requires run { IsRun order bundle.now core.now }
     requires ends { AreStoppedOrDone core.now.state }
     ensures found { IfOk result (IsConcluded order bundle.now core.now) }
@@ -308,7 +301,6 @@ pub fn conclude_applied(
     order: Order,
     core: Core,
 ) -> Result<StateOrVerdict<Core>, SetFault>
-    requires fits { IsFitting bundle.now }
     requires sound { keys_over order bundle.now ≡ Sound }
     requires applied { IsApplied bundle.now core }
     ensures found { IfOk result (IsStateOrVerdict (HasMerged order bundle.now) order bundle.now) }
@@ -331,10 +323,9 @@ pub fn conclude_applied(
 /// What the journals of a bundle result in over its opening rows and set: all of them executed together, or the
 /// verdict of their audit, where that is not Sound. It is made of `audit_of_keys`, `apply_all` and `conclude_applied`:
 /// where not everything was executed, the audit gives the reason.
-/// What is required, and the faults, are those of `begin`.
+/// The faults are those of `begin`.
 #[tactic(auto, using(crate::proofs::Conditions::sound_is_sent))]
 pub fn serve(alloc: Global, bundle: &Bundle, order: Order) -> Result<StateOrVerdict<Core>, SetFault>
-    requires { IsServable bundle.now }
     ensures served { IfOk result (IsStateOrVerdict (HasMerged order bundle.now) order bundle.now) }
     ensures fault { IfErr result (IsBundleFault bundle.now) }
 {

@@ -4,4 +4,4 @@ use Rattle.fault_places.specs.Next.{next_there}
 use Rattle.fault_places.proofs.next_there.next_there.Given as goal
 
 abbrev pub invariant-loop-journal : goal.invariant-loop-journal
-invariant-loop-journal l = next_there l.after l.found (drop l.journal-index l.journals) ≡ next_there l.after None l.journals
+invariant-loop-journal l = next_there l.opened l.after l.found (drop l.journal-index l.journals) ≡ next_there l.opened l.after None l.journals

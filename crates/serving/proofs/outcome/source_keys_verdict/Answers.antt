@@ -7,7 +7,7 @@ use Rattle.serving.proofs.outcome.source_keys_verdict.Goals as goal
 
 pub audit_keys_of-requires : goal.audit_keys_of-requires
 audit_keys_of-requires c =
-    all_taken c.args.bundle.now c.rows.result.now c.opening_set-opened.result.now c.journals.result.now c.rows.ensures c.opening_set-opened.ensures c.journals.ensures c.requires
+    all_taken c.args.bundle.now c.rows.result.now c.opening_set-opened.result.now c.journals.result.now c.rows.ensures c.opening_set-opened.ensures c.journals.ensures c.keeps_servable.ensures.fits
 
 pub returns-clause-fault : goal.returns-clause-fault
 returns-clause-fault c =

@@ -1,9 +1,6 @@
-use Rattle.std.proofs.Common.{◌∙◌, subst}
+use Rattle.std.proofs.Common.{◌∙◌}
 use Rattle.std.specs.FinSet as set
-use Rattle.std.specs.Prelude.{IfErr}
 use Rattle.std.proofs.lemmas.Result.{IfOk-weaker}
-use Rattle.gtid_set.specs.Sets.{Gtids}
-use Rattle.audit.specs.Others.{IsPartFault}
 use Rattle.audit.proofs.Parts.{fault_of_difference, none_in_set}
 use Rattle.audit.proofs.Rising.{none_missing}
 use Rattle.audit.proofs.sources.World.missing_set.Goals as goal
@@ -20,5 +17,4 @@ returns-clause-ok c =
 
 pub returns-clause-fault : goal.returns-clause-fault
 returns-clause-fault c =
-    subst (λ (s : Gtids). IfErr c.subtract.result (IsPartFault s)) c.in_ok-skipped.ensures.ok
-    (fault_of_difference c.subtract.result _ _ c.subtract.ensures.full)
+    fault_of_difference c.subtract.result c.args.self.now c.args.journals.now _ _ (λ i. set.difference (c.in_ok-skipped.ensures.ok i) (c.opening_set.ensures i)) c.subtract.ensures.full
