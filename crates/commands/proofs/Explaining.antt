@@ -7,9 +7,7 @@ use Rattle.txn_journal.specs.declared.fault.JournalFault.{JournalFault}
 use Rattle.gtid_report.specs.Faults.{journal_fault}
 use Rattle.gtid_report.specs.declared.fault.Fault.{Fault}
 use Rattle.gtid_report.specs.declared.fault.Fault.TheVariants as fault
-use Rattle.gtid_report.specs.declared.refusal.Refusal.{Refusal}
 use Rattle.serving.specs.Faults.{IsVerdictFault}
-use Rattle.serving.specs.Servable.{IsServable}
 use Rattle.serving.specs.declared.order.Order.{Order}
 use Rattle.commands.specs.Printed.{Holds, Finds, GivesUp, answer_of, refused_with}
 use Rattle.commands.specs.Bundles.{Audits, ParsesAsBundle, audit_answer, bundle_in}
@@ -21,7 +19,7 @@ use Rattle.commands.specs.declared.report.Report.{Report}
 use Rattle.commands.proofs.Finding.{found_in, fault_in}
 
 abbrev IsBundleText : List ℕ → Result BundleValue JournalFault → Type 0
-IsBundleText bytes found = IsTextOf ParsesAsBundle bundle_in IsServable bytes found
+IsBundleText bytes found = IsTextOf ParsesAsBundle bundle_in bytes found
 
 abbrev bundle_of : BundleValue → Result BundleValue JournalFault
 bundle_of b = Ok b

@@ -12,6 +12,8 @@ use Rattle.applier.specs.Draining.{AllApply, Drains}
 use Rattle.txn_journal.specs.BundleStates.{BundleValue}
 use Rattle.serving.specs.declared.order.Order.{Order}
 use Rattle.serving.specs.Serving.{IsReady, IsRun, run}
+use Rattle.replica_core.specs.Draining.{AreStoppedOrDone}
+use Rattle.commands.specs.Applying.{IsHistory}
 use Rattle.serving.proofs.Runs.{ready_applied}
 
 -- what holds of a take, a commit and a rollback holds of the events of steps that are such
@@ -33,6 +35,16 @@ both_apply (s ∷ first) more h k = (h.0, both_apply first more h.1 k)
 -- a replica that replays steps has run their events
 replayed : (core now : Replica) (steps : List Step) → IsReplay core steps now → now ≡ run core (events_of steps)
 replayed core now steps legal = λ i. record { site = legal.site i; state = legal.state i }
+
+-- a history of work to which draining has added is one, once each channel is stopped or done
+pub history_left : (order : Order) (b : BundleValue) (worked left : ClosedValue) → IsReady order b worked.opening → AllApply worked.steps → Drains worked left
+    → IsReplay left.opening left.steps left.now → AreStoppedOrDone left.now.state → IsHistory order b left
+history_left order b worked left ready work drains legal ends = record {
+  ready = subst (IsReady order b) (sym drains.opening) ready;
+  work = subst AllApply (sym drains.steps) (both_apply worked.steps drains.more work drains.apply);
+  legal = legal;
+  ends = ends;
+}
 
 -- a replica that has received everything, and then a history of work, to which draining has added
 pub history_runs : (order : Order) (b : BundleValue) (worked left : ClosedValue) → IsReady order b worked.opening → AllApply worked.steps → Drains worked left

@@ -6,6 +6,7 @@ pub mod Importing
 pub mod Coming
 pub mod Answering
 pub mod Explaining
+pub mod Telling
 pub mod Unsound
 pub mod ReadBlocks
 pub mod RowLines

@@ -1,6 +1,6 @@
 -- What is answered where the verdict is not Sound.
 use Rattle.std.proofs.Common.{◌≡◌, refl, sym, subst}
-use Rattle.std.specs.Prelude.{Result, Ok, Err}
+use Rattle.std.specs.Prelude.{Result}
 use Rattle.rows.specs.declared.change.RowFault.{RowFault}
 use Rattle.rows.specs.Apply.{Rows}
 use Rattle.gtid_set.specs.Sets.{Gtids}
@@ -8,7 +8,7 @@ use Rattle.world.specs.declared.verdict.Verdict.{Verdict}
 use Rattle.world.specs.declared.verdict.Verdict.TheVariants.{Unequal, Purged, Missing, Shared, Reordered, Concurrent, NotClosed, DoesNotApply, Sound}
 use Rattle.txn_journal.specs.BundleStates.{BundleValue}
 use Rattle.serving.specs.declared.order.Order.{Order}
-use Rattle.serving.specs.Verdicts.{IsUnsound, verdict_over}
+use Rattle.serving.specs.Verdicts.{IsUnsound}
 use Rattle.commands.specs.Printed.{Holds}
 use Rattle.commands.specs.Bundles.{printed_verdict, state_or_verdict, apply_answer, union_of_journals, rows_of_union}
 use Rattle.commands.specs.declared.answer.Answer.{Answer}

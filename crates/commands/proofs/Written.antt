@@ -14,19 +14,14 @@ use Rattle.txn_journal.specs.Refused.{Refuses}
 use Rattle.txn_journal.specs.declared.fault.JournalFault.{JournalFault}
 use Rattle.gtid_report.specs.Faults.{set_fault}
 use Rattle.serving.specs.Faults.{IsBundleFault, IsVerdictFault}
-use Rattle.serving.specs.Servable.{IsServable, WrittenIsServable}
 use Rattle.commands.specs.Printed.{GivesUp}
 use Rattle.commands.specs.Bundles.{ParsesAsBundle}
 use Rattle.commands.specs.Positions.{ParsesAsJournal}
 
--- a bundle that was decoded is one by its grammar, and can be served
+-- a bundle that was decoded is one by its grammar
 pub bundle_spelled : (bytes : List ℕ) (found : Result BundleValue JournalFault) → IfOk found (λ b. WritesBundle bytes b) → IfErr found (λ f. RefusesBundle f bytes) → ParsesAsBundle bytes found
 bundle_spelled bytes (Ok b) writes refused = writes
 bundle_spelled bytes (Err f) writes refused = refused
-
-pub bundle_servable : (bytes : List ℕ) (found : Result BundleValue JournalFault) → WrittenIsServable → IfOk found (λ b. WritesBundle bytes b) → IfOk found IsServable
-bundle_servable bytes (Ok b) law writes = law bytes b writes
-bundle_servable bytes (Err f) law writes = tt
 
 pub journal_spelled : (bytes : List ℕ) (found : Result JournalValue JournalFault) → IfOk found (λ j. Writes bytes j) → IfErr found (λ f. Refuses f bytes) → ParsesAsJournal bytes found
 journal_spelled bytes (Ok j) writes refused = writes

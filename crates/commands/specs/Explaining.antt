@@ -15,7 +15,7 @@ use Rattle.fault_places.specs.Lines.{lines_of}
 use Rattle.fault_places.specs.Explained.{verdict_explained, refusal_explained}
 use Rattle.commands.specs.Printed.{Printed, Holds, refused_with}
 use Rattle.commands.specs.Bundles.{Audits, audit_answer, bundle_in}
-use Rattle.commands.specs.Reports.{HoldsReport}
+use Rattle.commands.specs.Reports.{FindsReport}
 use Rattle.commands.specs.declared.report.Report.{Report}
 
 -- ---- what is shown
@@ -55,11 +55,9 @@ pub record Explains (order : Order) (bytes : List ℕ) (printed : Printed) (note
 
 -- ---- results
 
--- the result holds the answer and what explains it, or the answer is the line of this refusal; or memory was refused
+-- the answer of an audit with what explains it, or the refusal that is its answer
 abbrev pub FindsExplained : Order → List ℕ → Result Report Fault → Type 0
-FindsExplained order bytes (Ok held) = HoldsReport (Explains order) bytes held
-FindsExplained order bytes (Err (fault.Refused r)) = Audits order bytes (refused_with r)
-FindsExplained order bytes (Err fault.Memory) = Unit {0}
+FindsExplained order bytes found = FindsReport (Explains order) (Audits order) bytes found
 
 -- an answer is taken as it is, and for a refusal there is its line with what explains it
 abbrev pub SettlesExplained : List ℕ → Result Report Fault → Report → Type 0

@@ -12,3 +12,4 @@ pub mod Texts
 pub mod Version
 pub mod Listings
 pub mod Explaining
+pub mod Telling

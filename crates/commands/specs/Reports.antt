@@ -1,8 +1,10 @@
 -- What a command writes to standard output, its answer, and what beside it to standard error, its notes.
-use Rattle.std.specs.Prelude.{◌≡◌, ◌⊎◌, ℕ, List, Option}
+use Rattle.std.specs.Prelude.{◌≡◌, ◌⊎◌, ℕ, List, Option, Result, Ok, Err}
 use Rattle.std.specs.Io.KnownBytes.{Appends}
+use Rattle.gtid_report.specs.declared.fault.Fault.{Fault}
+use Rattle.gtid_report.specs.declared.fault.Fault.TheVariants as fault
 use Rattle.commands.specs.Edge.{Output, StreamsValue, output_of, Begins, one_more, IsReadFault}
-use Rattle.commands.specs.Printed.{Printed, Holds, to_all, IsDone, IsCutOff}
+use Rattle.commands.specs.Printed.{Printed, Holds, refused_with, to_all, IsDone, IsCutOff}
 use Rattle.commands.specs.declared.edge.Outcome.{Outcome}
 use Rattle.commands.specs.declared.edge.RunFault.{RunFault}
 use Rattle.commands.specs.declared.edge.RunFault.TheVariants.{Memory, Read, Write}
@@ -15,6 +17,12 @@ pub record HoldsReport (reports : List ℕ → Printed → List ℕ → Type 0) 
   pub printed : Printed
   pub reported : reports bytes printed (held.notes.items)
   pub holds : Holds held.answer printed
+
+-- the result holds an answer to the bytes with its notes, or the line of this refusal is the answer; or memory was refused
+abbrev pub FindsReport : (List ℕ → Printed → List ℕ → Type 0) → (List ℕ → Printed → Type 0) → List ℕ → Result Report Fault → Type 0
+FindsReport reports answers bytes (Ok held) = HoldsReport reports bytes held
+FindsReport reports answers bytes (Err (fault.Refused r)) = answers bytes (refused_with r)
+FindsReport reports answers bytes (Err fault.Memory) = Unit {0}
 
 -- it is the answer to the bytes, beside some notes
 abbrev pub IsReported : (List ℕ → Printed → List ℕ → Type 0) → List ℕ → Printed → Type 0

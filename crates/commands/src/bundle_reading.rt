@@ -1,16 +1,22 @@
-//! A bundle that several threads read.
+//! Bundles that commands read.
 ghost use Rattle.std.specs.Prelude.{◌≡◌, IfOk, IfErr};
-ghost use Rattle.serving.specs.Servable.{IsServable};
 ghost use Rattle.commands.specs.Bundles.{ParsesAsBundle, bundle_in};
 ghost use Rattle.commands.specs.Edge.{ReadFault};
-ghost use Rattle.commands.specs.Texts.{HasFound};
+ghost use Rattle.commands.specs.Texts.{HasFound, IsTextOf};
 
 use crate::edge::{RunFault, Sink, Source};
 use crate::streams::Streams;
 use crate::text::Text;
 use std::alloc::Global;
 use std::thread::Threads;
-use txn_journal::{Bundle, JournalFault};
+use txn_journal::{Bundle, JournalFault, decode_bundle};
+
+/// The bundle that bytes parse as, all of the bytes.
+pub(crate) fn decode_whole(alloc: Global, bytes: &[u8]) -> Result<Bundle, JournalFault>
+    ensures { IsTextOf ParsesAsBundle bundle_in bytes.now result }
+{
+    decode_bundle(alloc, bytes)
+}
 
 /// What all bytes that a reader has left parse as. Their lines are parsed by several threads.
 pub(crate) fn read_bundle<S: Source + Send, W: Sink, R: Threads + Sync>(
@@ -20,7 +26,7 @@ pub(crate) fn read_bundle<S: Source + Send, W: Sink, R: Threads + Sync>(
     streams: &mut Streams<S, W>,
 ) -> Result<Result<Bundle, JournalFault>, RunFault>
     ensures output { streams.new.output ≡ streams.old.output }
-    ensures read { IfOk result (HasFound ParsesAsBundle bundle_in IsServable streams.old.input.left streams.new.input.left) }
+    ensures read { IfOk result (HasFound ParsesAsBundle bundle_in streams.old.input.left streams.new.input.left) }
     ensures fault { IfErr result (ReadFault streams.old.input streams.new.input) }
 {
     match streams.read_beside(rt, alloc, workers) {

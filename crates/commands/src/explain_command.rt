@@ -1,27 +1,26 @@
 //! The command `audit --explain`.
 ghost use Rattle.std.specs.Prelude.{◌≡◌, IfOk, IfErr};
 ghost use Rattle.serving.specs.Faults.{IsVerdictFault};
-ghost use Rattle.serving.specs.Servable.{IsServable};
 ghost use Rattle.fault_places.specs.Lines.{lines_of};
 ghost use Rattle.fault_places.specs.Explained.{refusal_explained};
 ghost use Rattle.commands.specs.Printed.{Holds, GivesUp, refused_with};
-ghost use Rattle.commands.specs.Bundles.{ParsesAsBundle, audit_answer, bundle_in};
-ghost use Rattle.commands.specs.Texts.{IsTextOf};
+ghost use Rattle.commands.specs.Bundles.{audit_answer};
 ghost use Rattle.commands.specs.Reports.{HoldsReport, HasReported, HasNotReported};
 ghost use Rattle.commands.specs.Explaining.{AreMissingBeside, Explains, ExplainsBundle, FindsExplained, SettlesExplained};
 
 use crate::answer::{Answer, refusal_answer};
 use crate::audit_command::verdict_answer;
+use crate::bundle_reading::decode_whole;
 use crate::edge::{Outcome, RunFault, Sink, Source};
 use crate::report::{Report, Reporter, run_report};
 use crate::streams::Streams;
 use fault_places::{explain_refusal, explain_verdict};
 use gtid_report::{Fault, Refusal};
 use gtid_set::{GtidSet, SetFault};
-use serving::{Order, faults_over, verdict_over, written_is_servable};
+use serving::{Order, faults_over, verdict_over};
 use std::alloc::{AllocError, Global};
 use std::mem;
-use txn_journal::{Bundle, JournalFault, decode_bundle};
+use txn_journal::Bundle;
 use world::Verdict;
 
 /// The GTIDs that are missing beside the one of the verdict.
@@ -30,7 +29,6 @@ fn missing_beside(
     bundle: &Bundle,
     verdict: &Verdict,
 ) -> Result<Option<GtidSet>, AllocError>
-    requires { IsServable bundle.now }
     ensures { IfOk result (AreMissingBeside bundle.now verdict.now) }
 {
     match verdict {
@@ -50,7 +48,6 @@ fn explain_bundle(
     bytes: &[u8],
     bundle: &Bundle,
 ) -> Result<Report, Fault>
-    requires { IsServable bundle.now }
     ensures answer { IfOk result (λ held. Holds held.answer (audit_answer order bundle.now)) }
     ensures notes { IfOk result (λ held. ExplainsBundle order bytes.now bundle.now held.notes.items) }
     ensures fault { IfErr result (GivesUp (IsVerdictFault bundle.now)) }
@@ -62,14 +59,6 @@ fn explain_bundle(
         answer: verdict_answer(alloc, &verdict)?,
         notes,
     })
-}
-
-/// The bundle that bytes parse as, all of the bytes.
-fn decode_whole(alloc: Global, bytes: &[u8]) -> Result<Bundle, JournalFault>
-    ensures { IsTextOf ParsesAsBundle bundle_in IsServable bytes.now result }
-{
-    written_is_servable();
-    decode_bundle(alloc, bytes)
 }
 
 /// The answer to a bundle's bytes, with what explains it; or the fault of the bytes. The bundle is left to the end of the process.

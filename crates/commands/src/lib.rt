@@ -1,5 +1,6 @@
 //! The commands as a library, over any reader and writer: `run_set`, `run_position`, `run_audit`, `run_list`, `run_explain`, `run_upgrade`,
-//! `run_states`, `run_import`, `apply_bundle`, `run_version`; and `apply_journals`, which applies journals by workers on threads.
+//! `run_states`, `run_import`, `apply_bundle`, `apply_and_tell`, `run_version`; and over a bundle that was read `apply_decoded`,
+//! `merge_decoded` and `apply_journals`, by threads.
 //!
 //! What a contract sees: of `Streams` the reader with the bytes that it has left and its failed calls (`Input`), and the writer with the
 //! bytes that it holds and its failed calls (`Output`), each where it is known.
@@ -7,28 +8,30 @@
 //! Each command has two clauses. `done`: what was read is what the answer is for, and what was written is the answer and nothing else.
 //! `failed`: where memory was refused or a read failed nothing was written; where a write failed, a prefix of the answer.
 //!
-//! `run_explain` and `run_import` take a second writer, for notes: after the answer has been written, `run_explain` writes what explains it, and
-//! `run_import` what a verdict on the bundle won't see, or, where the answer is empty, the line of the refusal (`HasReported`, `HasNotReported`).
+//! `run_explain`, `run_import` and `apply_and_tell` take a second writer, for notes: after the answer has been written, `run_explain` writes
+//! what explains it, `apply_and_tell` the lines of the history, and `run_import` what a verdict on the bundle won't see, or, where the
+//! answer is empty, the line of the refusal (`HasReported`, `HasNotReported`).
 //! What is known at a refused line of a log is a fold over the lines before it (`place_at`).
 //!
 //! The answer of `apply` and `audit` is a function of the bytes: where they are no bundle, the refusal that `decode_bundle` is proved to
 //! give; where they are one, the verdict, or, where that is Sound, the union of all journals with the rows that it denotes (`rows_of`);
 //! or E8 or E9, where a set that they need is full. So the merge theorem is about a call that the program makes.
 //!
-//! `apply_journals` (`applied`) has the same answer for every number of workers, every interleaving, whichever threads could be started
-//! and whichever allocations were refused. The proof uses the history alone: it is a run of takes, commits and rollbacks, and
-//! `conclude` of `serving` does the rest. Where the history cannot be closed, a replica is served anew on one thread.
+//! `apply` has two ways with one answer (`comes` of both). `apply_decoded` is what a replica does: it opens, positions and serves a replica,
+//! and then so many workers share it, with a history that `apply_and_tell` shows; what they leave is drained. The proof uses the history
+//! alone: it is a run of takes, commits and rollbacks, and `conclude` of `serving` does the rest. Where the history cannot be closed, a
+//! replica is served anew on one thread. `apply_journals` gives back the history itself.
 //!
-//! `apply_decoded` chooses by the number of workers and the order: one thread; threads that apply shares of the sources, and one thread
-//! where these share a key; or, where sources may share keys, a second thread that audits the keys beside the serving, which only read the
-//! bundle both. The commands never call `apply_journals`, whose workers share a replica: it was slower than one thread wherever it
-//! was measured.
+//! `merge_decoded` is the fast way to that answer. It chooses by the number of workers and the order: one thread; threads that apply shares
+//! of the sources, and one thread where these share a key; or, where sources may share keys, a second thread that audits the keys beside the
+//! serving, which only read the bundle both.
 //!
 //! Not proved: that workers do anything (what they leave is drained), and speed. A call that a signal interrupts is made again, up to
 //! 1,000 times.
 #![tactic(auto)]
 
 mod answer;
+mod applied_answer;
 mod apply_command;
 mod audit_command;
 mod blocks;
@@ -36,16 +39,19 @@ mod bundle_reading;
 mod edge;
 mod explain_command;
 mod history;
+mod history_command;
 mod import_command;
 mod import_fault;
 mod import_refusal;
 mod list_command;
 mod log_places;
+mod merge_way;
 mod parallel;
 mod pieces;
 mod position_command;
 mod printing;
 mod reading;
+mod replica_way;
 mod report;
 mod request;
 mod set_command;
@@ -59,15 +65,18 @@ mod whole;
 mod wrap;
 
 pub use answer::Answer;
-pub use apply_command::{apply_bundle, apply_decoded};
+pub use apply_command::{Way, apply_bundle};
 pub use audit_command::run_audit;
 pub use edge::{Failed, Outcome, RunFault, Sink, Source};
 pub use explain_command::run_explain;
+pub use history_command::apply_and_tell;
 pub use import_command::run_import;
 pub use list_command::run_list;
+pub use merge_way::merge_decoded;
 pub use parallel::apply_journals;
 pub use pieces::Text;
 pub use position_command::run_position;
+pub use replica_way::apply_decoded;
 pub use set_command::run_set;
 pub use states_command::run_states;
 pub use streams::Streams;

@@ -1,11 +1,13 @@
 //! What the journals of a bundle result in where workers apply them.
 ghost use Rattle.std.specs.Prelude.{◌≤◌, IfOk, IfErr};
-ghost use Rattle.applier.specs.Draining.{AllApply};
+ghost use Rattle.replica_core.specs.Draining.{AreStoppedOrDone};
+ghost use Rattle.applier.specs.Draining.{AllApply, Drains};
+ghost use Rattle.txn_journal.specs.BundleStates.{BundleValue};
+ghost use Rattle.serving.specs.declared.order.Order.{Order};
 ghost use Rattle.serving.specs.Faults.{IsBundleFault};
-ghost use Rattle.serving.specs.Servable.{IsFitting, IsServable};
 ghost use Rattle.serving.specs.Serving.{IsReady};
-ghost use Rattle.serving.specs.Verdicts.{IsConcluded, IsStateOrVerdict};
-ghost use Rattle.commands.specs.Applying.{HasMergedIn};
+ghost use Rattle.serving.specs.Verdicts.{IsConcluded, IsStateOrVerdict, IsVerdictOfKeys};
+ghost use Rattle.commands.specs.Applying.{HasMergedIn, IsHistory, IsWorked};
 
 use crate::history::run_history;
 use crate::side_by_side::begin_beside;
@@ -19,6 +21,13 @@ use std::thread::Threads;
 use txn_journal::Bundle;
 use world::Verdict;
 
+/// What workers did to the replica of a bundle: their history, and the verdict of the audit, where not everything is executed.
+#[derive(Drop)]
+pub(crate) struct Worked {
+    pub(crate) book: ClosedBook,
+    pub(crate) verdict: Option<Verdict>,
+}
+
 /// What a history of work over a replica that was served all journals results in, once what it left is
 /// drained: nothing where all is executed, or else the verdict of the audit.
 fn drain_and_conclude(
@@ -27,9 +36,9 @@ fn drain_and_conclude(
     order: Order,
     book: &mut ClosedBook,
 ) -> Result<Option<Verdict>, SetFault>
-    requires fits { IsFitting bundle.now }
     requires ready { IsReady order bundle.now book.old.opening }
     requires work { AllApply book.old.steps }
+    ensures history { IfOk result (λ _. IsHistory order bundle.now book.new) }
     ensures found { IfOk result (IsConcluded order bundle.now book.new.now) }
     ensures fault { IfErr result (IsBundleFault bundle.now) }
 {
@@ -45,20 +54,15 @@ fn conclude_history(
     bundle: &Bundle,
     order: Order,
     mut book: ClosedBook,
-) -> Result<StateOrVerdict<ClosedBook>, SetFault>
-    requires fits { IsFitting bundle.now }
+) -> Result<Worked, SetFault>
     requires ready { IsReady order bundle.now book.opening }
     requires work { AllApply book.steps }
-    ensures applied { IfOk result (IsStateOrVerdict (HasMergedIn order bundle.now) order bundle.now) }
+    ensures worked { IfOk result (IsWorked order bundle.now) }
     ensures fault { IfErr result (IsBundleFault bundle.now) }
 {
     let concluded = drain_and_conclude(alloc, bundle, order, &mut book);
     match concluded {
-        Ok(None) => Ok(StateOrVerdict::State(book)),
-        Ok(Some(verdict)) => {
-            drop(book);
-            Ok(StateOrVerdict::Verdict(verdict))
-        }
+        Ok(verdict) => Ok(Worked { book, verdict }),
         Err(fault) => {
             drop(book);
             Err(fault)
@@ -72,16 +76,56 @@ fn drain_anew(
     alloc: Global,
     bundle: &Bundle,
     order: Order,
-) -> Result<StateOrVerdict<ClosedBook>, SetFault>
-    requires { IsServable bundle.now }
-    ensures applied { IfOk result (IsStateOrVerdict (HasMergedIn order bundle.now) order bundle.now) }
+) -> Result<StateOrVerdict<Worked>, SetFault>
+    ensures worked { IfOk result (IsStateOrVerdict (IsWorked order bundle.now) order bundle.now) }
+    ensures keys { IfOk result (IsVerdictOfKeys order bundle.now) }
     ensures fault { IfErr result (IsBundleFault bundle.now) }
 {
     match begin(alloc, bundle, order)? {
         StateOrVerdict::State(core) => {
-            conclude_history(alloc, bundle, order, ClosedBook::start(alloc, core))
+            let book = ClosedBook::start(alloc, core);
+            Ok(StateOrVerdict::State(conclude_history(alloc, bundle, order, book)?))
         }
         StateOrVerdict::Verdict(verdict) => Ok(StateOrVerdict::Verdict(verdict)),
+    }
+}
+
+/// What workers did to the replica of a bundle, or the verdict of the audit of its keys.
+pub(crate) fn work_journals<G: Gate + Sync, R: Threads + Wait + Sync>(
+    rt: &R,
+    alloc: Global,
+    bundle: &Bundle,
+    order: Order,
+    workers: u8,
+    gate: &G,
+) -> Result<StateOrVerdict<Worked>, SetFault>
+    requires { (1 ≤ workers) × (workers ≤ 64) }
+    ensures worked { IfOk result (IsStateOrVerdict (IsWorked order bundle.now) order bundle.now) }
+    ensures keys { IfOk result (IsVerdictOfKeys order bundle.now) }
+    ensures fault { IfErr result (IsBundleFault bundle.now) }
+{
+    let core = match begin_beside(rt, alloc, bundle, order)? {
+        StateOrVerdict::State(core) => core,
+        StateOrVerdict::Verdict(verdict) => return Ok(StateOrVerdict::Verdict(verdict)),
+    };
+    match run_history(rt, alloc, core, workers, gate) {
+        Some(book) => Ok(StateOrVerdict::State(conclude_history(alloc, bundle, order, book)?)),
+        None => drain_anew(alloc, bundle, order),
+    }
+}
+
+/// The history, where all is executed, or else the verdict.
+fn book_or_verdict(worked: Worked) -> StateOrVerdict<ClosedBook>
+    ensures { (order : Order) (b : BundleValue) → IsConcluded order b worked.book.now worked.verdict
+        → IsStateOrVerdict (HasMergedIn order b) order b result }
+{
+    let Worked { book, verdict } = worked;
+    match verdict {
+        None => StateOrVerdict::State(book),
+        Some(verdict) => {
+            drop(book);
+            StateOrVerdict::Verdict(verdict)
+        }
     }
 }
 
@@ -89,8 +133,7 @@ fn drain_anew(
 /// verdict of the audit that asks for this order, where that is not Sound. One thread audits their keys while another receives them.
 /// Then so many workers apply them, each on a thread of its own where one can be started; what they leave is
 /// applied when they have ended. The answer
-/// does not depend on their number, nor on the order of their steps. The bundle can be served, as each
-/// that was read can.
+/// does not depend on their number, nor on the order of their steps.
 ///
 /// `Memory` is a failed allocation, `SourcesFull` comes only where the GTIDs of all journals together are of
 /// more than 65,536 sources, and `PoolFull` only where the intervals of the opening set and of the
@@ -104,17 +147,12 @@ pub fn apply_journals<G: Gate + Sync, R: Threads + Wait + Sync>(
     workers: u8,
     gate: &G,
 ) -> Result<StateOrVerdict<ClosedBook>, SetFault>
-    requires can { IsServable bundle.now }
-    requires workers { (1 ≤ workers) × (workers ≤ 64) }
+    requires { (1 ≤ workers) × (workers ≤ 64) }
     ensures applied { IfOk result (IsStateOrVerdict (HasMergedIn order bundle.now) order bundle.now) }
     ensures fault { IfErr result (IsBundleFault bundle.now) }
 {
-    let core = match begin_beside(rt, alloc, bundle, order)? {
-        StateOrVerdict::State(core) => core,
-        StateOrVerdict::Verdict(verdict) => return Ok(StateOrVerdict::Verdict(verdict)),
-    };
-    match run_history(rt, alloc, core, workers, gate) {
-        Some(book) => conclude_history(alloc, bundle, order, book),
-        None => drain_anew(alloc, bundle, order),
+    match work_journals(rt, alloc, bundle, order, workers, gate)? {
+        StateOrVerdict::State(worked) => Ok(book_or_verdict(worked)),
+        StateOrVerdict::Verdict(verdict) => Ok(StateOrVerdict::Verdict(verdict)),
     }
 }

@@ -8,7 +8,8 @@ use crate::text::Text;
 use std::alloc::Global;
 use txn_journal::JournalFault;
 
-/// A reader that has not ended after so many calls has failed (our own rule).
+/// A reader that has not ended after so many calls has failed (our own rule). Where blocks are read (`read_beside`), it is after so many
+/// blocks, each of up to 64 calls.
 pub(crate) const MOST_READS: u64 = 1_099_511_627_776;
 
 /// What all bytes that a reader gives parse as. They are read in pieces of at most 65,536.
@@ -16,7 +17,7 @@ pub(crate) fn read_text<T: Text, S: Source>(
     alloc: Global,
     reader: &mut S,
 ) -> Result<Result<T, JournalFault>, RunFault>
-    ensures read { IfOk result (HasFound T.parses T.decoded T.is_read (S.left reader.old) (S.left reader.new)) }
+    ensures read { IfOk result (HasFound T.parses T.decoded (S.left reader.old) (S.left reader.new)) }
     ensures calm { OnOk result (S.failed reader.new ≡ S.failed reader.old) }
     ensures fault { IfErr result (ReadFault (input_of S.left S.failed reader.old) (input_of S.left S.failed reader.new)) }
 {

@@ -19,11 +19,15 @@ pub(crate) struct Report {
 
 /// What a command answers to all bytes that it reads, and what it notes beside that.
 pub(crate) trait Reporter {
+    /// What is required of the reporter.
+    ghost ready: { Self → Type 0 } = { λ _. Unit {0} };
+
     /// The answer to bytes, and the notes beside it.
     ghost reports: { Self → List ℕ → Printed → List ℕ → Type 0 };
 
     /// The answer to these bytes, with its notes.
     fn report(&self, alloc: Global, bytes: &[u8]) -> Result<Report, RunFault>
+        requires { ready self.now }
         ensures ok { IfOk result (HoldsReport (reports self.now) bytes.now) }
         ensures memory { IfErr result (λ f. f ≡ RunFault.Memory) };
 }
@@ -48,6 +52,7 @@ pub(crate) fn run_report<R: Reporter, S: Source, W: Sink, E: Sink>(
     streams: &mut Streams<S, W>,
     errors: &mut E,
 ) -> Result<Outcome, RunFault>
+    requires { R.ready reporter.now }
     ensures done { IfOk result
         (HasReported E.written E.failed (R.reports reporter.now) errors.old errors.new streams.old streams.new) }
     ensures failed { IfErr result

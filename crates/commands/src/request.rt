@@ -29,8 +29,7 @@ pub(crate) trait Request {
 
     /// The answer to a value that was read.
     fn answer(&self, alloc: Global, value: &Self::Value) -> Result<Answer, Fault>
-        requires ready { ready self.now }
-        requires read { Self.Value.is_read value.now }
+        requires { ready self.now }
         ensures comes { IfOk result (λ answer. Holds answer (answers self.now value.now)) }
         ensures fault { IfErr result (GivesUp (may_fail self.now value.now)) };
 }
@@ -42,9 +41,8 @@ fn find<Q: Request>(
     request: &Q,
     decoded: Result<Q::Value, JournalFault>,
 ) -> Result<Answer, Fault>
-    requires ready { Q.ready request.now }
-    requires read { IfOk decoded Q.Value.is_read }
-    ensures { (bytes : List ℕ) → IsTextOf Q.Value.parses Q.Value.decoded Q.Value.is_read bytes decoded → Finds (IsAnswerTo Q.Value.parses Q.Value.decoded (Q.answers request.now) (Q.may_fail request.now)) bytes result }
+    requires { Q.ready request.now }
+    ensures { (bytes : List ℕ) → IsTextOf Q.Value.parses Q.Value.decoded bytes decoded → Finds (IsAnswerTo Q.Value.parses Q.Value.decoded (Q.answers request.now) (Q.may_fail request.now)) bytes result }
 {
     match decoded {
         Ok(value) => {
@@ -62,9 +60,8 @@ pub(crate) fn answer_decoded<Q: Request>(
     request: &Q,
     decoded: Result<Q::Value, JournalFault>,
 ) -> Result<Answer, RunFault>
-    requires ready { Q.ready request.now }
-    requires read { IfOk decoded Q.Value.is_read }
-    ensures ok { (bytes : List ℕ) → IsTextOf Q.Value.parses Q.Value.decoded Q.Value.is_read bytes decoded → IfOk result (HoldsOne (IsAnswerTo Q.Value.parses Q.Value.decoded (Q.answers request.now) (Q.may_fail request.now)) bytes) }
+    requires { Q.ready request.now }
+    ensures ok { (bytes : List ℕ) → IsTextOf Q.Value.parses Q.Value.decoded bytes decoded → IfOk result (HoldsOne (IsAnswerTo Q.Value.parses Q.Value.decoded (Q.answers request.now) (Q.may_fail request.now)) bytes) }
     ensures memory { IfErr result (λ f. f ≡ RunFault.Memory) }
 {
     settle(alloc, find(alloc, request, decoded))

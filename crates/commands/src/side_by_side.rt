@@ -1,9 +1,8 @@
 //! The audit of the keys beside the serving of the journals.
 ghost use Rattle.std.specs.Prelude.{IfOk, IfErr};
 ghost use Rattle.serving.specs.Faults.{IsBundleFault};
-ghost use Rattle.serving.specs.Servable.{IsServable};
 ghost use Rattle.serving.specs.Serving.{IsReady};
-ghost use Rattle.serving.specs.Verdicts.{HasMerged, IsStateOrVerdict};
+ghost use Rattle.serving.specs.Verdicts.{HasMerged, IsStateOrVerdict, IsVerdictOfKeys};
 
 use gtid_set::SetFault;
 use replica_core::Core;
@@ -24,8 +23,8 @@ pub(crate) fn begin_beside<R: Threads>(
     bundle: &Bundle,
     order: Order,
 ) -> Result<StateOrVerdict<Core>, SetFault>
-    requires { IsServable bundle.now }
     ensures begun { IfOk result (IsStateOrVerdict (IsReady order bundle.now) order bundle.now) }
+    ensures keys { IfOk result (IsVerdictOfKeys order bundle.now) }
     ensures fault { IfErr result (IsBundleFault bundle.now) }
 {
     if !can_be_sent(bundle) {
@@ -58,7 +57,6 @@ pub(crate) fn serve_beside<R: Threads>(
     bundle: &Bundle,
     order: Order,
 ) -> Result<StateOrVerdict<Core>, SetFault>
-    requires { IsServable bundle.now }
     ensures served { IfOk result (IsStateOrVerdict (HasMerged order bundle.now) order bundle.now) }
     ensures fault { IfErr result (IsBundleFault bundle.now) }
 {

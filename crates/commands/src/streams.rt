@@ -79,7 +79,7 @@ impl<S: Source, W: Sink> Streams<S, W> {
         alloc: Global,
     ) -> Result<Result<T, JournalFault>, RunFault>
         ensures output { self.new.output ≡ self.old.output }
-        ensures read { IfOk result (HasFound T.parses T.decoded T.is_read self.old.input.left self.new.input.left) }
+        ensures read { IfOk result (HasFound T.parses T.decoded self.old.input.left self.new.input.left) }
         ensures fault { IfErr result (ReadFault self.old.input self.new.input) }
     {
         read_text(alloc, &mut self.reader)

@@ -7,14 +7,12 @@ ghost use Rattle.txn_journal.specs.declared.fault.JournalFault.{JournalFault};
 ghost use Rattle.txn_journal.specs.declared.fault.JournalFault.TheVariants as journals;
 ghost use Rattle.txn_journal.specs.BundleReaders.{bundle_reading};
 ghost use Rattle.txn_journal.specs.BundleReading.{closing_bundle};
-ghost use Rattle.serving.specs.Servable.{IsServable};
 ghost use Rattle.commands.specs.Bundles.{ParsesAsBundle, ParsesAsOldBundle, bundle_in, old_bundle_in};
 ghost use Rattle.commands.specs.Positions.{ParsesAsJournal, journal_in};
 ghost use Rattle.commands.specs.Texts.{IsTextOf};
 ghost use Rattle.parallel_reading.specs.Coming.{HasCome};
 
 use journal::Journal;
-use serving::written_is_servable;
 use std::alloc::{AllocError, Global};
 use std::marker::Model;
 use std::mem;
@@ -27,9 +25,6 @@ pub(crate) trait Text: Drop {
 
     /// The fold over the bytes: the value, or the first fault.
     ghost decoded: { List ℕ → Result Self JournalFault };
-
-    /// What holds of each value that was read.
-    ghost is_read: { Self → Type 0 } = { λ _. Unit {0} };
 
     /// What takes the bytes, piece by piece.
     type Reader: Drop;
@@ -47,7 +42,7 @@ pub(crate) trait Text: Drop {
 
     /// What all pieces together parse as.
     fn finish(alloc: Global, reader: Self::Reader) -> Result<Self, JournalFault>
-        ensures { (bytes : List ℕ) → has_come reader bytes → IsTextOf parses decoded is_read bytes result };
+        ensures { (bytes : List ℕ) → has_come reader bytes → IsTextOf parses decoded bytes result };
 
     /// A set is not made because an allocation failed, or because by the grammar it has too many sources or intervals.
     ghost full: { (bytes : List ℕ) (f : SetFault) → parses bytes (Err (journals.Set f)) → IsMemoryOr (parses bytes (Err (journals.Set sets.SourcesFull))) (parses bytes (Err (journals.Set sets.PoolFull))) f };
@@ -57,8 +52,6 @@ impl Text for Bundle {
     ghost parses = { ParsesAsBundle };
 
     ghost decoded = { bundle_in };
-
-    ghost is_read = { IsServable };
 
     ghost full = { λ bytes f h. h };
 
@@ -76,7 +69,6 @@ impl Text for Bundle {
     }
 
     fn finish(_: Global, reader: BundleReader) -> Result<Bundle, JournalFault> {
-        written_is_servable();
         finish_or_leave(reader)
     }
 }

@@ -1,11 +1,12 @@
 -- What a command line means.
 use Rattle.std.specs.Prelude.{◌≤◌}
 use Rattle.gtidrep.specs.declared.line.Command.{Command}
-use Rattle.gtidrep.specs.declared.line.Command.TheVariants.{Set, Position, Audit, Upgrade, Import, States, Version, Apply}
+use Rattle.gtidrep.specs.declared.line.Command.TheVariants.{Set, Position, Audit, Upgrade, Import, States, Version, Apply, Tell}
 
 -- an `apply` is for 1 to 64 workers
 abbrev pub IsForOneToMost : Command → Type 0
-IsForOneToMost (Apply order workers) = (1 ≤ workers) × (workers ≤ 64)
+IsForOneToMost (Apply way order workers) = (1 ≤ workers) × (workers ≤ 64)
+IsForOneToMost (Tell order workers) = (1 ≤ workers) × (workers ≤ 64)
 IsForOneToMost (Set function first second) = Unit {0}
 IsForOneToMost (Audit order listing) = Unit {0}
 IsForOneToMost Upgrade = Unit {0}

@@ -2,7 +2,8 @@
 ghost use Rattle.std.specs.Prelude.{◌≡◌};
 ghost use Rattle.gtidrep.specs.Status.{message_of, status_of};
 
-use crate::line::{CommandFault, FUNCTIONS};
+use crate::help::FUNCTIONS;
+use crate::line::CommandFault;
 use commands::{Outcome, RunFault};
 
 /// How the program ends.

@@ -1,10 +1,15 @@
 ghost use Rattle.std.specs.Prelude.{◌≡◌, ℕ, ◌≤◌, IfOk, MatchOption};
 ghost use Rattle.gtidrep.specs.Line.{IsForOneToMost};
 
+use crate::help::{
+    APPLY_EXAMPLE, AUDIT_EXAMPLE, IMPORT_EXAMPLE, NO_HISTORY, POSITION_EXAMPLE, SET_EXAMPLE,
+    STATES_EXAMPLE, UPGRADE_EXAMPLE,
+};
 use binlog_bundle::Grants;
 use clap::builder::ValueParser;
 use clap::error::ErrorKind;
 use clap::{Arg, ArgAction, ArgMatches, Error};
+use commands::Way;
 use serving::Order;
 use std::alloc::{AllocError, Global};
 
@@ -51,6 +56,12 @@ pub enum Command<'a> {
     Version,
     /// A bundle from standard input is applied by 1 to 64 workers, where the audit that asks for an order allows it.
     Apply {
+        way: Way,
+        order: Order,
+        workers: u8,
+    },
+    /// The same, by workers that share a replica, whose history is told.
+    Tell {
         order: Order,
         workers: u8,
     },
@@ -65,94 +76,6 @@ pub enum CommandFault {
     /// The text of `clap` that describes the fault, in whole lines.
     Line(String),
 }
-
-/// The functions of `set`, and then this text.
-macro_rules! functions_and {
-    ($rest:literal) => {
-        concat!(
-            "Functions of one set: normalize, count. Of two sets: union, intersect, subtract, symmetric,
-subset, equal, disjoint. Of a set and a UUID: only, without.
-",
-            $rest
-        )
-    };
-}
-
-/// The functions of `set`, by the words that they take, in whole lines.
-pub const FUNCTIONS: &str = functions_and!("");
-
-const SET_EXAMPLE: &str = functions_and!(
-    "A set that is given as `-` is all of standard input, where it may be longer than a command line.
-
-Example:
-  gtidrep set subtract aaaaaaaa-aaaa-aaaa-aaaa-aaaaaaaaaaaa:1-10 aaaaaaaa-aaaa-aaaa-aaaa-aaaaaaaaaaaa:3:5-6
-
-Status: 0 the answer is printed, 1 an argument is refused, 2 the command line, 3 memory, 4 writing failed."
-);
-
-const POSITION_EXAMPLE: &str =
-    "Prints how many entries of the journal the source with this UUID sends to a replica that asks with this set, and
-their GTIDs, one a line; or the line that answers why it sends nothing.
-
-Example:
-  gtidrep position --own aaaaaaaa-aaaa-aaaa-aaaa-aaaaaaaaaaaa --ask aaaaaaaa-aaaa-aaaa-aaaa-aaaaaaaaaaaa:1-3 < examples/first.journal
-
-Status: 0 printed, 1 refused, 2 the command line, 3 memory, 4 reading or writing failed.";
-
-const AUDIT_EXAMPLE: &str =
-    "Prints `sound`, or the first reason why the journals cannot be merged: `shared` and `not-closed` name the pair of
-transactions at fault, `missing`, `unequal` and `does-not-apply` one of them, `purged` a journal. With --explain standard
-error shows where these stand: channels, entries, lines and changes; of a line that is refused, the line and what is due.
-With --ordered two sources may write one row, as after a failover: `reordered` and `concurrent` then name two transactions
-that share a key and stand in two orders, or in none.
-
-Example:
-  gtidrep audit < examples/ring.bundle
-
-Status: 0 sound, 1 refused, 2 the command line, 3 memory, 4 reading or writing failed.";
-
-const UPGRADE_EXAMPLE: &str =
-    "Prints the bundle by version 2 of the format: with an empty opening set, its rows in the order in which `apply` prints
-them, and the last_committed and sequence number of each entry.
-
-Example:
-  gtidrep upgrade < examples/first.bundle
-
-Status: 0 printed, 1 refused, 2 the command line, 3 memory, 4 reading or writing failed.";
-
-const STATES_EXAMPLE: &str =
-    "Reads a line for each server: a name, its UUID, and its gtid_executed (`-` where it is empty), a blank between. Prints the
-union of the sets, and for each server what it lacks of that; its gaps, which it lacks below a number that it has of the same source; and
-what it alone has, which is errant where the others replicate from it or it from them. `-` stands for an empty set.
-
-Example:
-  gtidrep states < examples/three.servers
-
-Status: 0 printed, 1 refused, 2 the command line, 3 memory, 4 reading or writing failed.";
-
-const IMPORT_EXAMPLE: &str =
-    "Reads a bundle of version 2 in which each journal is what mysqlbinlog prints of binary logs of MySQL, and prints it with
-its journals. Transactions of the opening set are left out by mysqlbinlog itself. The line of a channel ends with the
-gtid_executed of its server, so that a log that ends early is refused. Standard error has the refusal, which names the line
-of the input, or else a line for each thing that a verdict on the bundle can't see.
-
-Example:
-  set -o pipefail
-  (cat head && echo channel east executed EXECUTED &&
-   mysqlbinlog --verify-binlog-checksum -v --base64-output=decode-rows --print-table-metadata \\
-     --exclude-gtids=OPENING east-bin.0* &&
-   echo done) | gtidrep import > shop.bundle
-
-Status: 0 printed, 1 refused, 2 the command line, 3 memory, 4 reading or writing failed.";
-
-const APPLY_EXAMPLE: &str =
-    "Prints the executed set and the rows, or the line that answers why the bundle does not apply. One worker was the
-fastest wherever it was measured. --ordered is as for `audit`.
-
-Example:
-  gtidrep apply --workers 4 < examples/first.bundle
-
-Status: 0 applied, 1 refused, 2 the command line, 3 memory, 4 reading or writing failed.";
 
 fn value<'a>(alloc: Global, id: &'a str, help: &'a str) -> Arg<'a> {
     Arg::new(alloc, id)
@@ -297,6 +220,27 @@ fn import_command<'a>(alloc: Global) -> Result<clap::Command<'a>, AllocError> {
         ))
 }
 
+/// The ways to apply a bundle, by the words that name them.
+const WAYS: [&str; 2] = ["merge", "replica"];
+
+fn by_option<'a>(alloc: Global) -> Arg<'a> {
+    Arg::new(alloc, "by")
+        .long("by")
+        .action(ArgAction::Set)
+        .value_parser(ValueParser::Names(&WAYS))
+        .help("the way: a fast merge, or a replica that workers share; the answer is the same")
+}
+
+fn history_flag<'a>(alloc: Global) -> Result<Arg<'a>, AllocError> {
+    Arg::new(alloc, "history")
+        .long("history")
+        .action(ArgAction::SetTrue)
+        .help(
+            "shows on standard error each step of the replica's seats, with its reply; goes with --by replica",
+        )
+        .requires_arg("by")
+}
+
 fn apply_command<'a>(alloc: Global) -> Result<clap::Command<'a>, AllocError> {
     let workers = Arg::new(alloc, "workers")
         .long("workers")
@@ -304,11 +248,13 @@ fn apply_command<'a>(alloc: Global) -> Result<clap::Command<'a>, AllocError> {
         .value_parser(ValueParser::unsigned(1, 64))
         .default_value("1")
         .help("how many workers share the work, from 1 to 64; the answer is the same");
-    clap::Command::new(alloc, "apply")
+    let command = clap::Command::new(alloc, "apply")
         .about("Applies a bundle from standard input: apply < examples/first.bundle")
         .after_help(APPLY_EXAMPLE)
+        .arg(by_option(alloc))?
         .arg(workers)?
-        .arg(ordered_flag(alloc))
+        .arg(ordered_flag(alloc))?;
+    with_flag(command, history_flag(alloc))
 }
 
 /// The program with one command more, if there was memory for that command.
@@ -350,6 +296,31 @@ fn order_of(matches: &ArgMatches) -> Order {
         Order::ByConflict
     } else {
         Order::BySource
+    }
+}
+
+/// The way that is asked for: the merge unless it is the replica.
+fn way_of(matches: &ArgMatches) -> Way {
+    match matches.get_str("by") {
+        Some("replica") => Way::Replica,
+        _ => Way::Merge,
+    }
+}
+
+/// How a bundle is applied. A merge has no history.
+fn applying_of<'a>(matches: &ArgMatches<'a>) -> Option<Command<'a>>
+    ensures { MatchOption result (Unit {0}) IsForOneToMost }
+{
+    let order = order_of(matches);
+    let workers = workers_of(matches)?;
+    match (way_of(matches), matches.get_flag("history")) {
+        (Way::Merge, true) => None,
+        (Way::Replica, true) => Some(Command::Tell { order, workers }),
+        (way, false) => Some(Command::Apply {
+            way,
+            order,
+            workers,
+        }),
     }
 }
 
@@ -406,10 +377,7 @@ fn command_of<'a>(name: &str, matches: &ArgMatches<'a>) -> Option<Command<'a>>
             is_explained: matches.get_flag("explain"),
         });
     }
-    Some(Command::Apply {
-        order: order_of(matches),
-        workers: workers_of(matches)?,
-    })
+    applying_of(matches)
 }
 
 fn named_command<'a>(matches: &ArgMatches<'a>) -> Option<Command<'a>>
@@ -429,6 +397,14 @@ fn fault_of(alloc: Global, error: Error) -> CommandFault {
     }
 }
 
+/// A merge is asked for its history: no other words that `clap` takes are no command.
+fn no_history(alloc: Global) -> CommandFault {
+    match String::from_str(alloc, NO_HISTORY) {
+        Ok(text) => CommandFault::Line(text),
+        Err(_) => CommandFault::Memory,
+    }
+}
+
 /// Reads the words after the program's name.
 pub fn parse_line<'a>(alloc: Global, words: &'a [String]) -> Result<Command<'a>, CommandFault>
     ensures { IfOk result IsForOneToMost }
@@ -439,7 +415,7 @@ pub fn parse_line<'a>(alloc: Global, words: &'a [String]) -> Result<Command<'a>,
     match commands.no_binary_name(true).try_get_matches_from(words) {
         Ok(matches) => match named_command(&matches) {
             Some(command) => Ok(command),
-            None => Err(CommandFault::Line(String::new(alloc))),
+            None => Err(no_history(alloc)),
         },
         Err(error) if error.kind() == ErrorKind::DisplayVersion => Ok(Command::Version),
         Err(error) => Err(fault_of(alloc, error)),

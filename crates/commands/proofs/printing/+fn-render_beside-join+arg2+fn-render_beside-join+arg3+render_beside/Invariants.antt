@@ -1,4 +1,4 @@
-use Rattle.std.proofs.Common.{ℕ, ◌+◌, ◌*◌}
+use Rattle.std.proofs.Common.{◌+◌, ◌*◌}
 use Rattle.commands.proofs.printing.+fn-render_beside-join+arg2+fn-render_beside-join+arg3+render_beside.Given as goal
 
 abbrev pub decreases-join+arg2 : goal.decreases-join+arg2

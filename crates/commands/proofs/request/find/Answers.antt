@@ -12,7 +12,7 @@ returns-in-Ok g c = λ bytes come.
     let decoded = g.Q.Value.Text.decoded in
     let answers = g.Q.Request.answers c.args.request.now in
     let full = g.Q.Request.may_fail c.args.request.now in
-    let text = subst (IsTextOf parses decoded g.Q.Value.Text.is_read bytes) c.in-Ok.is come in
+    let text = subst (IsTextOf parses decoded bytes) c.in-Ok.is come in
     found_in parses decoded answers full bytes c.in-Ok.value c.answer-answer.result text.parsed text.exact c.answer-answer.ensures.comes c.answer-answer.ensures.fault
 
 pub returns-in-Err : goal.returns-in-Err
@@ -21,6 +21,6 @@ returns-in-Err g c = λ bytes come.
     let decoded = g.Q.Value.Text.decoded in
     let answers = g.Q.Request.answers c.args.request.now in
     let full = g.Q.Request.may_fail c.args.request.now in
-    let text = subst (IsTextOf parses decoded g.Q.Value.Text.is_read bytes) c.in-Err.is come in
+    let text = subst (IsTextOf parses decoded bytes) c.in-Err.is come in
     subst (λ (fault : Fault). Finds (IsAnswerTo parses decoded answers full) bytes (Err fault)) (sym c.from.ensures)
     (fault_in parses decoded answers full bytes c.in-Err.fault (g.met.Q.Value.Text.full bytes) text.parsed text.exact)

@@ -8,7 +8,7 @@ use Rattle.txn_journal.specs.declared.fault.JournalFault.{JournalFault}
 use Rattle.txn_journal.proofs.FormatLaws.{closed_after, is_found, is_refused, whole_of}
 use Rattle.txn_journal.proofs.BundleLaws.{IsSoundBundle, bundle_laws}
 use Rattle.commands.specs.Bundles.{bundle_in}
-use Rattle.commands.proofs.Written.{bundle_spelled, bundle_servable}
+use Rattle.commands.proofs.Written.{bundle_spelled}
 use Rattle.commands.proofs.text.BundleText.finish.Goals as goal
 
 pub returns : goal.returns
@@ -18,5 +18,4 @@ returns c = λ bytes come.
     record {
       parsed = bundle_spelled bytes c.finish_or_leave.result found (is_refused (bundles None) (IsSoundBundle None) (bundle_laws None) c.finish_or_leave.result bytes read);
       exact = whole_of _ _ _ read;
-      holds = bundle_servable bytes c.finish_or_leave.result c.written_is_servable.ensures found;
     }

@@ -1,6 +1,0 @@
-use Rattle.serving.proofs.Conditions.{all_taken}
-use Rattle.commands.proofs.apply_command.apply_by_shares.Goals as goal
-
-pub merge_by_shares-found-requires-clause-fitting : goal.merge_by_shares-found-requires-clause-fitting
-merge_by_shares-found-requires-clause-fitting g c κs within =
-    all_taken c.args.bundle.now c.rows-rows.result.now c.opening_set-opened.result.now c.journals.result.now c.rows-rows.ensures c.opening_set-opened.ensures c.journals.ensures c.requires.can.fits

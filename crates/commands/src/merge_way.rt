@@ -1,0 +1,256 @@
+//! What a bundle results in by the fast way: seats share no replica, and where the sources share no key no replica is opened.
+ghost use Rattle.std.specs.Prelude.{◌≡◌, ◌≤◌, IfOk, IfErr, IfSome};
+ghost use Rattle.serving.specs.Faults.{IsBundleFault};
+ghost use Rattle.serving.specs.declared.order.Order.TheVariants.{BySource};
+ghost use Rattle.serving.specs.Verdicts.{HasMerged, IsStateOrVerdict};
+ghost use Rattle.commands.specs.Printed.{Printed, Holds, GivesUp};
+ghost use Rattle.rows.specs.Listing.{all_shown, rows_of};
+ghost use Rattle.rows.specs.Parts.{AreParts};
+ghost use Rattle.row_parts.specs.Listing.{rows_in_each};
+ghost use Rattle.commands.specs.Bundles.{printed_rows, printed_state, apply_answer};
+
+use crate::answer::Answer;
+use crate::applied_answer::{state_answer, unsound_answer};
+use crate::edge::Outcome;
+use crate::pieces::Text;
+use crate::printing::render_beside;
+use crate::side_by_side::serve_beside;
+use gtid_report::{Fault, render_executed};
+use gtid_set::GtidSet;
+use journal::{Entry, Journal};
+use replica_core::Core;
+use row_parts::list_whole;
+use rows::{Key, Row, Rows};
+use serving::{Order, StateOrVerdict, keeps_servable, serve};
+use source_shares::{Merged, merge_by_shares};
+use std::alloc::{AllocError, Global};
+use std::mem;
+use std::thread::Threads;
+use txn_journal::Bundle;
+
+/// How often the list of rows is halved for threads that print it.
+const HALVINGS: u8 = 2;
+
+/// The lines of an executed set, and of rows that are lent in order.
+fn listed_answer<R: Threads + Sync>(
+    rt: &R,
+    alloc: Global,
+    executed: &GtidSet,
+    list: &[(&Key, &Row)],
+) -> Result<Answer, AllocError>
+    ensures { IfOk result (λ answer. Holds answer (printed_rows executed.now (rows_of (all_shown list.now)))) }
+{
+    let line = render_executed(alloc, executed)?;
+    let text = render_beside(rt, alloc, line, list, HALVINGS)?;
+    Ok(Answer {
+        outcome: Outcome::Done,
+        text,
+    })
+}
+
+/// The lines of what journals together result in.
+fn parts_answer<R: Threads + Sync>(
+    rt: &R,
+    alloc: Global,
+    opening: &Rows,
+    merged: &Merged,
+) -> Result<Answer, AllocError>
+    ensures { IfOk result (λ answer. (whole : _) → AreParts opening.now.rows (rows_in_each merged.now.parts.items) whole → Holds answer (printed_state merged.now.executed whole)) }
+{
+    let list = list_whole(rt, alloc, opening, &merged.parts)?;
+    let answer = listed_answer(rt, alloc, &merged.executed, &list)?;
+    Ok(answer)
+}
+
+/// The lines of what a bundle results in.
+fn merged_answer(
+    alloc: Global,
+    order: Order,
+    bundle: &Bundle,
+    merged: &StateOrVerdict<Core>,
+) -> Result<Answer, AllocError>
+    requires { IsStateOrVerdict (HasMerged order bundle.now) order bundle.now merged.now }
+    ensures { IfOk result (λ answer. Holds answer (apply_answer order bundle.now)) }
+{
+    match merged {
+        StateOrVerdict::State(core) => state_answer(alloc, core),
+        StateOrVerdict::Verdict(verdict) => unsound_answer(alloc, order, bundle, verdict),
+    }
+}
+
+/// What was made for an answer.
+#[derive(Drop)]
+enum Left {
+    /// A replica that was served, or the verdict.
+    Served(StateOrVerdict<Core>),
+    /// What threads made of shares of the sources.
+    Shares(Merged),
+}
+
+/// An answer, and what was made for it, which takes long to be freed.
+#[derive(Drop)]
+pub(crate) struct KeptAnswer {
+    answer: Answer,
+    left: Left,
+}
+
+impl KeptAnswer {
+    /// The answer. What was made for it is left to the end of the process.
+    pub(crate) fn leave(self) -> Answer
+        ensures { result ≡ self.answer }
+    {
+        let KeptAnswer { answer, left } = self;
+        mem::forget(left);
+        answer
+    }
+
+    /// The answer. What was made for it is freed.
+    fn free(self) -> Answer
+        ensures { result ≡ self.answer }
+    {
+        let KeptAnswer { answer, left } = self;
+        drop(left);
+        answer
+    }
+}
+
+/// An answer with what was served for it, which is freed where there is none.
+fn hold(
+    answer: Result<Answer, AllocError>,
+    served: StateOrVerdict<Core>,
+) -> Result<KeptAnswer, AllocError>
+    ensures { (printed : Printed) → IfOk answer (λ a. Holds a printed) → IfOk result (λ held. Holds held.answer printed) }
+{
+    match answer {
+        Ok(answer) => Ok(KeptAnswer {
+            answer,
+            left: Left::Served(served),
+        }),
+        Err(error) => {
+            drop(served);
+            Err(error)
+        }
+    }
+}
+
+/// What a bundle results in where one thread audits and applies it.
+fn apply_alone(alloc: Global, bundle: &Bundle, order: Order) -> Result<KeptAnswer, Fault>
+    ensures comes { IfOk result (λ held. Holds held.answer (apply_answer order bundle.now)) }
+    ensures fault { IfErr result (GivesUp (IsBundleFault bundle.now)) }
+{
+    let merged = serve(alloc, bundle, order)?;
+    let answer = merged_answer(alloc, order, bundle, &merged);
+    Ok(hold(answer, merged)?)
+}
+
+/// What a bundle results in where one thread applies it, and another audits its keys meanwhile.
+fn apply_beside<R: Threads>(
+    rt: &R,
+    alloc: Global,
+    bundle: &Bundle,
+    order: Order,
+) -> Result<KeptAnswer, Fault>
+    ensures comes { IfOk result (λ held. Holds held.answer (apply_answer order bundle.now)) }
+    ensures fault { IfErr result (GivesUp (IsBundleFault bundle.now)) }
+{
+    let merged = serve_beside(rt, alloc, bundle, order)?;
+    let answer = merged_answer(alloc, order, bundle, &merged);
+    Ok(hold(answer, merged)?)
+}
+
+/// How many shares of the sources are applied side by side at most: more don't pay on the machines that were measured.
+const MOST_SHARES: usize = 4;
+
+/// What a bundle results in where threads apply shares of its sources, which share no key, and nothing where it can't be had so.
+fn apply_by_shares<R: Threads + Sync>(
+    rt: &R,
+    alloc: Global,
+    bundle: &Bundle,
+    workers: u8,
+) -> Result<Option<KeptAnswer>, AllocError>
+    requires { 1 ≤ workers }
+    ensures { IfOk result (λ found. IfSome found (λ held. Holds held.answer (apply_answer BySource bundle.now))) }
+{
+    keeps_servable(bundle);
+    let most = usize::from(workers).min(MOST_SHARES);
+    let opened = bundle.opening_set();
+    let rows = bundle.rows();
+    let found = merge_by_shares(rt, alloc, opened, rows, bundle.journals(), most);
+    let Some(merged) = found else {
+        return Ok(None);
+    };
+    match parts_answer(rt, alloc, rows, &merged) {
+        Ok(answer) => Ok(Some(KeptAnswer {
+            answer,
+            left: Left::Shares(merged),
+        })),
+        Err(error) => {
+            drop(merged);
+            Err(error)
+        }
+    }
+}
+
+/// What a bundle results in with two workers and more: by shares of its sources, where these may share no key, or else by one thread; where
+/// they may share keys, beside the audit.
+fn apply_side_by_side<R: Threads + Sync>(
+    rt: &R,
+    alloc: Global,
+    bundle: &Bundle,
+    order: Order,
+    workers: u8,
+) -> Result<KeptAnswer, Fault>
+    requires { 1 ≤ workers }
+    ensures comes { IfOk result (λ held. Holds held.answer (apply_answer order bundle.now)) }
+    ensures fault { IfErr result (GivesUp (IsBundleFault bundle.now)) }
+{
+    if let Order::BySource = order {
+        return match apply_by_shares(rt, alloc, bundle, workers)? {
+            Some(held) => Ok(held),
+            None => apply_alone(alloc, bundle, order),
+        };
+    }
+    apply_beside(rt, alloc, bundle, order)
+}
+
+/// What a bundle results in, with what was made for it: by one thread, or side by side.
+pub(crate) fn merge_held<R: Threads + Sync>(
+    rt: &R,
+    alloc: Global,
+    bundle: &Bundle,
+    order: Order,
+    workers: u8,
+) -> Result<KeptAnswer, Fault>
+    requires { 1 ≤ workers }
+    ensures comes { IfOk result (λ held. Holds held.answer (apply_answer order bundle.now)) }
+    ensures fault { IfErr result (GivesUp (IsBundleFault bundle.now)) }
+{
+    if workers == 1 {
+        apply_alone(alloc, bundle, order)
+    } else {
+        apply_side_by_side(rt, alloc, bundle, order, workers)
+    }
+}
+
+/// What a bundle results in, as `apply_decoded` has it, and faster. One
+/// worker is the calling thread. With more, threads apply shares of the sources, where these share no key and one pass over the
+/// journals shows it; by `ByConflict` a second thread audits the keys while the first serves the journals and applies what it receives.
+/// (No workers share a replica here, as those of `apply_decoded` do, and where the shares give nothing one thread goes on alone:
+/// more were slower wherever it was measured.)
+/// A refusal is `SourcesFull`, where the GTIDs of all journals together are of more than 65,536 sources, or
+/// `PoolFull`, where the intervals of the opening set and of the previous sets and the entries are together
+/// more than 4,294,967,294.
+pub fn merge_decoded<R: Threads + Sync>(
+    rt: &R,
+    alloc: Global,
+    bundle: &Bundle,
+    order: Order,
+    workers: u8,
+) -> Result<Answer, Fault>
+    requires { (1 ≤ workers) × (workers ≤ 64) }
+    ensures comes { IfOk result (λ answer. Holds answer (apply_answer order bundle.now)) }
+    ensures fault { IfErr result (GivesUp (IsBundleFault bundle.now)) }
+{
+    let held = merge_held(rt, alloc, bundle, order, workers)?;
+    Ok(held.free())
+}

@@ -1,0 +1,49 @@
+-- What the program does for each command: which answer of crate `commands` it writes.
+use Rattle.std.specs.Prelude.{◌≡◌, ℕ, List, Option, option_map}
+use Rattle.commands.specs.Edge.{StreamsValue}
+use Rattle.commands.specs.Printed.{Printed, Answering, at_once, to_all, IsDone, HasFailed}
+use Rattle.commands.specs.SetCommand.{set_answering}
+use Rattle.commands.specs.Positions.{asking_in, to_asking}
+use Rattle.commands.specs.Bundles.{Audits, Upgrades, Applies}
+use Rattle.commands.specs.Listings.{Lists}
+use Rattle.commands.specs.Explaining.{Explains}
+use Rattle.commands.specs.States.{IsStatesAnswer}
+use Rattle.commands.specs.Imports.{Imports}
+use Rattle.commands.specs.Version.{printed_version}
+use Rattle.commands.specs.Applying.{Tells}
+use Rattle.commands.specs.Reports.{HasReported, HasNotReported}
+use Rattle.commands.specs.declared.edge.Outcome.{Outcome}
+use Rattle.commands.specs.declared.edge.RunFault.{RunFault}
+use Rattle.gtidrep.specs.declared.line.Listing.TheVariants as listing
+use Rattle.gtidrep.specs.declared.line.Command.{Command}
+use Rattle.gtidrep.specs.declared.line.Command.TheVariants.{Set, Position, Audit, Upgrade, States, Import, Version, Apply, Tell}
+
+-- a command answers on standard output alone, or reports there and on standard error
+pub data Doing : Type 1 where
+  answers : Answering → Doing
+  reports : (List ℕ → Printed → List ℕ → Type 0) → Doing
+
+-- what each command does
+abbrev pub doing_of : Command → Doing
+doing_of (Set function first second) = answers (set_answering function.now first.now (option_map (λ w. w.now) second))
+doing_of (Position own ask) = answers (to_asking (asking_in own.now ask.now))
+doing_of (Audit order listing.Verdict) = answers (to_all (Audits order))
+doing_of (Audit order listing.All) = answers (to_all Lists)
+doing_of (Audit order listing.Explained) = reports (Explains order)
+doing_of Upgrade = answers (to_all Upgrades)
+doing_of States = answers (to_all IsStatesAnswer)
+doing_of (Import grants is_explained) = reports (Imports grants is_explained)
+doing_of Version = answers (at_once printed_version)
+doing_of (Apply way order workers) = answers (to_all (Applies order))
+doing_of (Tell order workers) = reports (Tells order)
+
+module _ {S W E : Type 0} (written : E → Option (List ℕ)) (failed : E → ℕ) (old new : E) (before after : StreamsValue S W) where
+  -- it is done, with standard error as it was, or with the notes on it
+  abbrev pub HasRun : Doing → Outcome → Type 0
+  HasRun (answers answering) outcome = IsDone answering before after outcome × (new ≡ old)
+  HasRun (reports notes) outcome = HasReported written failed notes old new before after outcome
+
+  -- it has failed, with standard error as it was, or with the notes on it cut off
+  abbrev pub HasNotRun : Doing → RunFault → Type 0
+  HasNotRun (answers answering) fault = HasFailed answering before after fault × (new ≡ old)
+  HasNotRun (reports notes) fault = HasNotReported written failed notes old new before after fault

@@ -1,0 +1,97 @@
+//! The texts of the help, and those that a fault of the command line is told by.
+
+/// The functions of `set`, and then this text.
+macro_rules! functions_and {
+    ($rest:literal) => {
+        concat!(
+            "Functions of one set: normalize, count. Of two sets: union, intersect, subtract, symmetric,
+subset, equal, disjoint. Of a set and a UUID: only, without.
+",
+            $rest
+        )
+    };
+}
+
+/// The functions of `set`, by the words that they take, in whole lines.
+pub(crate) const FUNCTIONS: &str = functions_and!("");
+
+pub(crate) const SET_EXAMPLE: &str = functions_and!(
+    "A set that is given as `-` is all of standard input, where it may be longer than a command line.
+
+Example:
+  gtidrep set subtract aaaaaaaa-aaaa-aaaa-aaaa-aaaaaaaaaaaa:1-10 aaaaaaaa-aaaa-aaaa-aaaa-aaaaaaaaaaaa:3:5-6
+
+Status: 0 the answer is printed, 1 an argument is refused, 2 the command line, 3 memory, 4 writing failed."
+);
+
+pub(crate) const POSITION_EXAMPLE: &str =
+    "Prints how many entries of the journal the source with this UUID sends to a replica that asks with this set, and
+their GTIDs, one a line; or the line that answers why it sends nothing.
+
+Example:
+  gtidrep position --own aaaaaaaa-aaaa-aaaa-aaaa-aaaaaaaaaaaa --ask aaaaaaaa-aaaa-aaaa-aaaa-aaaaaaaaaaaa:1-3 < examples/first.journal
+
+Status: 0 printed, 1 refused, 2 the command line, 3 memory, 4 reading or writing failed.";
+
+pub(crate) const AUDIT_EXAMPLE: &str =
+    "Prints `sound`, or the first reason why the journals cannot be merged: `shared` and `not-closed` name the pair of
+transactions at fault, `missing`, `unequal` and `does-not-apply` one of them, `purged` a journal. With --explain standard
+error shows where these stand: channels, entries, lines and changes; of a line that is refused, the line and what is due.
+With --ordered two sources may write one row, as after a failover: `reordered` and `concurrent` then name two transactions
+that share a key and stand in two orders, or in none.
+
+Example:
+  gtidrep audit < examples/ring.bundle
+
+Status: 0 sound, 1 refused, 2 the command line, 3 memory, 4 reading or writing failed.";
+
+pub(crate) const UPGRADE_EXAMPLE: &str =
+    "Prints the bundle by version 2 of the format: with an empty opening set, its rows in the order in which `apply` prints
+them, and the last_committed and sequence number of each entry.
+
+Example:
+  gtidrep upgrade < examples/first.bundle
+
+Status: 0 printed, 1 refused, 2 the command line, 3 memory, 4 reading or writing failed.";
+
+pub(crate) const STATES_EXAMPLE: &str =
+    "Reads a line for each server: a name, its UUID, and its gtid_executed (`-` where it is empty), a blank between. Prints the
+union of the sets, and for each server what it lacks of that; its gaps, which it lacks below a number that it has of the same source; and
+what it alone has, which is errant where the others replicate from it or it from them. `-` stands for an empty set.
+
+Example:
+  gtidrep states < examples/three.servers
+
+Status: 0 printed, 1 refused, 2 the command line, 3 memory, 4 reading or writing failed.";
+
+pub(crate) const IMPORT_EXAMPLE: &str =
+    "Reads a bundle of version 2 in which each journal is what mysqlbinlog prints of binary logs of MySQL, and prints it with
+its journals. Transactions of the opening set are left out by mysqlbinlog itself. The line of a channel ends with the
+gtid_executed of its server, so that a log that ends early is refused. Standard error has the refusal, which names the line
+of the input, or else a line for each thing that a verdict on the bundle can't see.
+
+Example:
+  set -o pipefail
+  (cat head && echo channel east executed EXECUTED &&
+   mysqlbinlog --verify-binlog-checksum -v --base64-output=decode-rows --print-table-metadata \\
+     --exclude-gtids=OPENING east-bin.0* &&
+   echo done) | gtidrep import > shop.bundle
+
+Status: 0 printed, 1 refused, 2 the command line, 3 memory, 4 reading or writing failed.";
+
+pub(crate) const APPLY_EXAMPLE: &str =
+    "Prints the executed set and the rows, or the line that answers why the bundle does not apply. `--by replica` does what a
+server does: workers share one replica, and --history shows on standard error what each of them did. `--by merge`, which is
+meant unless it is given, is the fast way to the same answer, by either order and any number of workers: that they agree is
+proved. --ordered is as for `audit`.
+
+Example:
+  gtidrep apply --workers 4 < examples/first.bundle
+  gtidrep apply --by replica --history --workers 2 < examples/first.bundle
+
+Status: 0 applied, 1 refused, 2 the command line, 3 memory, 4 reading or writing failed.";
+
+pub(crate) const NO_HISTORY: &str = "error: --history goes with --by replica: a merge has no history
+
+For more information, try '--help'.
+";
