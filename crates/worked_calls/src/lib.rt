@@ -5,21 +5,38 @@
 //!
 //! The end of a run of numbers, and sets that grow (`gtid_set`); a row found by its key (`rows`); audits over opening sets that are not
 //! empty, and of other journals than the world was made of (`audit`); what a source without a UUID sends (`auto_position`); a reader that
-//! keeps its refusal and gives its entries once, and numbers as they are written (`txn_journal`); a ring (`rings`); and two seats of a
-//! shared replica: a write prepared without the lock, one that comes too late, two commits on threads, and `close` with a pass too few
-//! (`shared_replica`).
+//! keeps its refusal and gives its entries once, bundles in pieces, and numbers as they are written (`txn_journal`); a graph of dependencies
+//! (`dependency_graph`); keys and patches (`write_set`); events in one run (`replica_core`, `network`); a ring (`rings`); seats of a shared
+//! replica: calls by turns, a write prepared without the lock, one that comes too late, two commits on threads, and `close` with a pass too
+//! few (`shared_replica`); what a drain adds (`applier`); and lines of a history (`replica_lines`).
 #![tactic(auto)]
 
 #[cfg(test)]
 mod audits;
 #[cfg(test)]
+mod calls;
+#[cfg(test)]
+mod cuts;
+#[cfg(test)]
+mod graphs;
+#[cfg(test)]
+mod histories;
+#[cfg(test)]
+mod history_lines;
+#[cfg(test)]
 mod lookups;
+#[cfg(test)]
+mod pairs;
+#[cfg(test)]
+mod patches;
 #[cfg(test)]
 mod pieces;
 #[cfg(test)]
 mod positions;
 #[cfg(test)]
 mod ring;
+#[cfg(test)]
+mod runs;
 #[cfg(test)]
 mod seats;
 #[cfg(test)]

@@ -106,7 +106,7 @@ fn word(reply: &NetworkReply) -> &'static str {
 }
 
 /// Whether a network may be given each event.
-fn are_numbered(events: &[NetworkEvent]) -> bool
+pub(crate) fn are_numbered(events: &[NetworkEvent]) -> bool
     ensures { result ≡ true → AreNumbered events.now }
 {
     for event in events {

@@ -27,13 +27,15 @@ enum Task {
 }
 
 /// What the closed book shows.
-#[derive(Drop)]
-struct Ending {
-    counts: Counts,
+#[derive(Clone, Copy)]
+pub(crate) struct Ending {
+    pub(crate) counts: Counts,
+    /// The places of the first seat's receipts, where they are asked for.
+    pub(crate) first: Option<&'static [u64]>,
     /// The places of the second seat's receipts, where they don't depend on threads.
-    second: Option<&'static [u64]>,
+    pub(crate) second: Option<&'static [u64]>,
     /// The lines of the state.
-    state: &'static str,
+    pub(crate) state: &'static str,
 }
 
 /// A channel is opened and positioned, and receives the entries of its journal.
@@ -97,7 +99,7 @@ fn commits<N: Naming, R: Wait>(
 }
 
 /// What the seat holds, prepared without the lock; None where it holds nothing.
-fn prepare_held<N: Naming, R: Wait>(
+pub(crate) fn prepare_held<N: Naming, R: Wait>(
     rt: &R,
     alloc: Global,
     replica: &SharedReplica<N>,
@@ -110,7 +112,7 @@ fn prepare_held<N: Naming, R: Wait>(
 }
 
 /// Whether a patch is installed.
-fn is_installed<N: Naming, R: Wait>(
+pub(crate) fn is_installed<N: Naming, R: Wait>(
     rt: &R,
     alloc: Global,
     replica: &SharedReplica<N>,
@@ -268,6 +270,7 @@ fn wanted_ending(wish: Task) -> Ending {
                 steps: 14,
                 commits: 2,
             },
+            first: Some(&[0, 1, 2, 3, 4, 5, 6, 7, 8, 13]),
             second: Some(&[9, 10, 11, 12]),
             state: concat!(
                 "executed aaaaaaaa-aaaa-aaaa-aaaa-aaaaaaaaaaaa:2,bbbbbbbb-bbbb-bbbb-bbbb-bbbbbbbbbbbb:1\n",
@@ -281,6 +284,7 @@ fn wanted_ending(wish: Task) -> Ending {
                 steps: 9,
                 commits: 2,
             },
+            first: None,
             second: None,
             state: concat!(
                 "executed aaaaaaaa-aaaa-aaaa-aaaa-aaaaaaaaaaaa:1-2\n",
@@ -303,26 +307,27 @@ fn are_at(receipts: &[Receipt], places: &[u64]) -> bool {
 }
 
 /// Whether a book's state has these lines.
-fn has_state(alloc: Global, book: &ClosedBook, lines: &str) -> bool {
+pub(crate) fn has_state(alloc: Global, book: &ClosedBook, lines: &str) -> bool {
     match render_state(alloc, book.state().executed(), book.state().rows()) {
         Ok(state) => state.as_str() == lines,
         Err(_) => false,
     }
 }
 
-fn has_receipts(book: &ClosedBook, second: Option<&'static [u64]>) -> bool {
-    let receipts = book.receipts(2);
-    let are_wanted = match second {
+/// Whether the receipts of a seat are ascending, and at these places where they are given.
+fn has_receipts(book: &ClosedBook, seat: u8, places: Option<&'static [u64]>) -> bool {
+    let receipts = book.receipts(seat);
+    match places {
         Some(places) => are_at(receipts, places),
-        None => receipts.len() == 2 && are_ascending(receipts),
-    };
-    are_wanted && are_ascending(book.receipts(1))
+        None => are_ascending(receipts),
+    }
 }
 
 fn shows(alloc: Global, book: &ClosedBook, want: Ending) -> bool {
     book.counts() == want.counts
         && book.steps().len() as u64 == want.counts.steps
-        && has_receipts(book, want.second)
+        && has_receipts(book, 1, want.first)
+        && has_receipts(book, 2, want.second)
         && has_state(alloc, book, want.state)
 }
 
@@ -351,20 +356,20 @@ fn closes<N: Naming>(
     alloc: Global,
     replica: SharedReplica<N>,
     passes: Vec<Pass<N>>,
-    wish: Task,
+    want: Ending,
 ) -> bool {
     match replica.close(passes) {
-        Ok(book) => shows(alloc, &book, wanted_ending(wish)) && starts_again(alloc, &book),
+        Ok(book) => shows(alloc, &book, want) && starts_again(alloc, &book),
         Err(_) => false,
     }
 }
 
 /// Whether one pass too few hands all back, and all passes close a book that shows the work.
-fn ends<N: Naming>(
+pub(crate) fn ends<N: Naming>(
     alloc: Global,
     replica: SharedReplica<N>,
     passes: Vec<Pass<N>>,
-    wish: Task,
+    want: Ending,
 ) -> bool {
     let mut passes = passes;
     let last = passes.pop();
@@ -374,7 +379,7 @@ fn ends<N: Naming>(
             if let Some(pass) = last {
                 let _room = passes.push(pass);
             }
-            closes(alloc, replica, passes, wish)
+            closes(alloc, replica, passes, want)
         }
     }
 }
@@ -396,7 +401,7 @@ fn two_seats<N: Naming + Send + Sync, R: Threads + Wait + Abort + Sync>(
         return Err("memory".into());
     };
     let worked = work(rt, alloc, &replica, passes.as_mut_slice(), bundle, wish);
-    let ended = ends(alloc, replica, passes, wish);
+    let ended = ends(alloc, replica, passes, wanted_ending(wish));
     assert!(rt; worked?);
     assert!(rt; ended);
     Ok(())

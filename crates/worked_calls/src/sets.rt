@@ -47,3 +47,23 @@ fn two_sources_by_turns(rt: HostRuntime) -> Result<(), Fail> {
     }
     Ok(())
 }
+
+/// The least unused number of a source: behind its first run, and none where it has all numbers.
+#[test]
+fn least_number_that_is_left(rt: HostRuntime) -> Result<(), Fail> {
+    let source = SourceId::from_bits(A);
+    let cases = [
+        ("", Some(1)),
+        ("aaaaaaaa-aaaa-aaaa-aaaa-aaaaaaaaaaaa:2-3", Some(1)),
+        ("aaaaaaaa-aaaa-aaaa-aaaa-aaaaaaaaaaaa:1-3:7", Some(4)),
+        (
+            "aaaaaaaa-aaaa-aaaa-aaaa-aaaaaaaaaaaa:1-9223372036854775807",
+            None,
+        ),
+    ];
+    for (text, want) in cases {
+        let set = GtidSet::from_text(rt.alloc(), text)?;
+        assert_eq!(rt; set.least_unused(source), want, "{text}");
+    }
+    Ok(())
+}

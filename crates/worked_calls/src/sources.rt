@@ -1,5 +1,6 @@
 //! A bundle of an opening row and two sources: A inserts two rows and updates the first, B inserts a row under the first one's key.
 
+use journal::Entry;
 use std::alloc::Global;
 use std::test::Fail;
 use txn_journal::{Bundle, decode_bundle};
@@ -8,7 +9,7 @@ pub(crate) const A: u128 = 0xaaaaaaaa_aaaa_aaaa_aaaa_aaaaaaaaaaaa;
 
 pub(crate) const B: u128 = 0xbbbbbbbb_bbbb_bbbb_bbbb_bbbbbbbbbbbb;
 
-const TEXT: &str = concat!(
+pub(crate) const TEXT: &str = concat!(
     "bundle 1\n",
     "replica cccccccc-cccc-cccc-cccc-cccccccccccc\n",
     "table t 3 pk 0 uk 1\n",
@@ -38,4 +39,12 @@ const TEXT: &str = concat!(
 
 pub(crate) fn bundle(alloc: Global) -> Result<Bundle, Fail> {
     Ok(decode_bundle(alloc, TEXT.as_bytes())?)
+}
+
+/// The entries of a bundle's first journal.
+pub(crate) fn first_entries(bundle: &Bundle) -> &[Entry] {
+    match bundle.journals().first() {
+        Some(journal) => journal.entries(),
+        None => &[],
+    }
 }

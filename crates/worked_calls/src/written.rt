@@ -5,7 +5,7 @@ use crate::sources::bundle;
 use std::test::Fail;
 use txn_journal::{decode_v2, encode_bundle_v2, encode_v2};
 
-const BUNDLE: &str = concat!(
+pub(crate) const BUNDLE: &str = concat!(
     "bundle 2\n",
     "replica cccccccc-cccc-cccc-cccc-cccccccccccc\n",
     "opening -\n",

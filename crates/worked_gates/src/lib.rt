@@ -1,15 +1,28 @@
 //! Tests of workers with a gate between their steps, and of the deques from which they steal, by public calls alone (`applier`,
 //! `commands`).
 //!
-//! Of two workers the second commits while the first is held before it prepares, so workers do run side by side; of four each commits
-//! something. What `apply_journals` gives back is the history of its workers. A seat that owns a transaction when the workers begin rolls
-//! it back. Of three tickets the owner pops the first and the third, and the other worker steals the second. Of two workers one is held
-//! with tickets in its deque, until the other has stolen one of them. Of transactions of eight, seven and one changes the first alone is
-//! prepared without the lock, and committed by its patch. Two sources that share no key are applied as two shares, and merged.
+//! Of two workers the second commits while the first is held before it prepares, so workers do run side by side, over one channel and over
+//! three; of four each commits something, and of eight over eight transactions each commits one. What `apply_journals` gives back is the
+//! history of its workers, and `apply_decoded` prints what it results in: the same with 2 and 64 workers, whether channels preserve their
+//! order or not, and by each order that an audit asks for. A seat that owns a transaction when the workers begin rolls it back. A worker
+//! gives up a commit that stays early, and leaves a channel that is stopped. Of three tickets the owner pops the first and the third, and
+//! the other worker steals the second. Of two workers one is held with tickets in its deque, until the other has stolen one of them. Of
+//! transactions of eight, seven and one changes the first alone is prepared without the lock, and committed by its patch. Two sources that
+//! share no key are applied as two shares, and merged.
 #![tactic(auto)]
 
 #[cfg(test)]
+mod answers;
+#[cfg(test)]
+mod books;
+#[cfg(test)]
 mod gates;
+#[cfg(test)]
+mod left;
+#[cfg(test)]
+mod marks;
+#[cfg(test)]
+mod merges;
 #[cfg(test)]
 mod prepares;
 #[cfg(test)]
@@ -18,3 +31,7 @@ mod seats;
 mod shares;
 #[cfg(test)]
 mod steals;
+#[cfg(test)]
+mod twenty;
+#[cfg(test)]
+mod worlds;

@@ -1,14 +1,13 @@
 //! A worker prepares a transaction of many changes without the lock, and one of few under it.
 
-use super::gates::rows_applied;
+use super::books::{book_of_bundle, commits_to};
 use applier::Gate;
 use gtid_text::Gtid;
-use serving::written_is_servable;
+use serving::Order;
 use std::sync::Wait;
 use std::sync::atomic::{AtomicU64, Ordering};
 use std::test::Fail;
 use std::thread::Threads;
-use txn_journal::decode_bundle;
 
 /// How many transactions were prepared without the lock, and how many were committed.
 #[derive(Drop)]
@@ -27,8 +26,6 @@ impl Gate for Count {
     fn after_commit(&self, _seat: u8, _gtid: Gtid) {
         self.committed.fetch_add(1, Ordering::SeqCst);
     }
-
-    fn after_steal(&self, _seat: u8) {}
 }
 
 /// A bundle of one channel with a transaction of eight changes, one of seven, and one of one.
@@ -64,22 +61,37 @@ close
 done
 ";
 
+/// What the three transactions leave.
+const SIXTEEN_ROWS: &str = "executed aaaaaaaa-aaaa-aaaa-aaaa-aaaaaaaaaaaa:1-3
+row t 1 null
+row t 2 null
+row t 3 null
+row t 4 null
+row t 5 null
+row t 6 null
+row t 7 null
+row t 8 null
+row t 11 null
+row t 12 null
+row t 13 null
+row t 14 null
+row t 15 null
+row t 16 null
+row t 17 null
+row t 21 null
+";
+
 /// Of transactions of eight, seven and one changes the first alone is prepared without the lock, and committed by its patch; all three
 /// are committed.
 #[test]
 fn eight_changes_are_prepared(rt: HostRuntime) -> Result<(), Fail> {
     let alloc = rt.alloc();
-    let Ok(bundle) = decode_bundle(alloc, EIGHT_SEVEN_ONE.as_bytes()) else {
-        return Err(Fail::from("no bundle"));
-    };
     let gate = Count {
         prepared: AtomicU64::new(0),
         committed: AtomicU64::new(0),
     };
-    written_is_servable();
-    let rows = rows_applied(&rt, alloc, &bundle, &gate);
-    drop(bundle);
-    assert_eq!(rt; rows, Some((16, 3)));
+    let book = book_of_bundle(&rt, alloc, EIGHT_SEVEN_ONE, Order::BySource, 2, &gate);
+    assert_eq!(rt; commits_to(alloc, book, SIXTEEN_ROWS), Some(3));
     assert_eq!(rt; gate.committed.load(Ordering::SeqCst), 3);
     assert_eq!(rt; gate.prepared.load(Ordering::SeqCst), 1);
     Ok(())

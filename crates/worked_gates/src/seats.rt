@@ -2,11 +2,15 @@
 
 ghost use Rattle.std.specs.Prelude.{◌≡◌};
 
-use super::gates::{closes_with_twenty, core_with_twenty, shows_twenty};
+use super::answers::answers;
+use super::books::{book_of_bundle, book_of_workers, commits_to};
+use super::marks::mark_of;
+use super::twenty::{TWENTY, core_with_twenty};
 use applier::{Gate, NoGate, WorkersEnd, run_workers};
 use commit_ledger::Blanks;
 use gtid_text::Gtid;
 use replica_core::{Core, Event, Reply};
+use serving::Order;
 use shared_replica::{ClosedBook, Naming, Pass, SharedReplica, Step, Taking};
 use std::alloc::Global;
 use std::marker::Brand;
@@ -19,16 +23,36 @@ use std::thread::Threads;
 /// A bit for each of the seats 1 to 4.
 const FOUR_SEATS: u64 = 0b1_1110;
 
-/// Each seat that is about to prepare for the first time waits until all four have come so far.
+/// A bit for each of the seats 1 to 8.
+const EIGHT_SEATS: u64 = 0b1_1111_1110;
+
+/// Each seat that is about to prepare for the first time waits until all have come so far.
 #[derive(Drop)]
 struct Assembly {
+    all: u64,
     came: AtomicU64,
+    /// The seats that have committed, a bit for each.
+    seats: AtomicU64,
+    /// How many transactions were committed.
     committed: AtomicU64,
 }
 
-/// The bit of a seat.
-fn mark_of(seat: u8) -> u64 {
-    1 << (seat % 64)
+impl Assembly {
+    /// These seats are to come, a bit for each.
+    fn of(all: u64) -> Assembly {
+        Assembly {
+            all,
+            came: AtomicU64::new(0),
+            seats: AtomicU64::new(0),
+            committed: AtomicU64::new(0),
+        }
+    }
+
+    /// Whether all seats have come, and all have committed.
+    fn is_complete(&self) -> bool {
+        self.came.load(Ordering::SeqCst) == self.all
+            && self.seats.load(Ordering::SeqCst) == self.all
+    }
 }
 
 impl Gate for Assembly {
@@ -38,41 +62,16 @@ impl Gate for Assembly {
             return;
         }
         for _ in 0..1_000_000_000u64 {
-            if self.came.load(Ordering::SeqCst) == FOUR_SEATS {
+            if self.came.load(Ordering::SeqCst) == self.all {
                 return;
             }
         }
     }
 
-    fn after_prepare(&self, _seat: u8) {}
-
     fn after_commit(&self, seat: u8, _gtid: Gtid) {
-        self.committed.fetch_or(mark_of(seat), Ordering::SeqCst);
+        self.seats.fetch_or(mark_of(seat), Ordering::SeqCst);
+        self.committed.fetch_add(1, Ordering::SeqCst);
     }
-
-    fn after_steal(&self, _seat: u8) {}
-}
-
-fn four_workers<N: Naming + Send + Sync, R: Threads + Wait + Abort + Sync>(
-    rt: &R,
-    alloc: Global,
-    blanks: Blanks,
-    core: Core,
-    gate: &Assembly,
-) -> Result<(), Fail>
-    requires steps { (blanks.steps.name ≡ N.steps_name) × (blanks.steps.parts ≡ N.seats) }
-    requires commits { (blanks.commits.name ≡ N.commits_name) × (blanks.commits.parts ≡ N.seats) }
-    requires opening { core ≡ N.opening }
-    requires four { N.seats ≡ 4 }
-{
-    let Ok((replica, passes)) = SharedReplica::<N>::open(alloc, blanks, core, 4) else {
-        return Err(Fail::from("no memory"));
-    };
-    let WorkersEnd { passes, fault } = run_workers(rt, alloc, &replica, passes, gate);
-    let shown = closes_with_twenty(alloc, replica, passes)?;
-    assert!(rt; fault.is_none());
-    assert!(rt; shown);
-    Ok(())
 }
 
 /// Of four workers each takes a transaction before any has committed one, and each commits some.
@@ -80,13 +79,83 @@ fn four_workers<N: Naming + Send + Sync, R: Threads + Wait + Abort + Sync>(
 fn each_of_four_commits(rt: HostRuntime) -> Result<(), Fail> {
     let alloc = rt.alloc();
     let core = core_with_twenty(alloc)?;
-    let gate = Assembly {
-        came: AtomicU64::new(0),
-        committed: AtomicU64::new(0),
-    };
-    four_workers::<Brand, _>(&rt, alloc, Blanks::new(4), core, &gate)?;
-    assert_eq!(rt; gate.came.load(Ordering::SeqCst), FOUR_SEATS);
-    assert_eq!(rt; gate.committed.load(Ordering::SeqCst), FOUR_SEATS);
+    let gate = Assembly::of(FOUR_SEATS);
+    let book = book_of_workers(&rt, alloc, core, 4, &gate);
+    assert_eq!(rt; commits_to(alloc, book, TWENTY), Some(20));
+    assert!(rt; gate.is_complete());
+    Ok(())
+}
+
+/// A bundle of eight transactions without a common key.
+const EIGHT_INSERTS: &str = "bundle 1
+replica cccccccc-cccc-cccc-cccc-cccccccccccc
+table t 1 pk 0
+channel x
+journal 1
+previous -
+txn aaaaaaaa-aaaa-aaaa-aaaa-aaaaaaaaaaaa:1
+ins t 1
+end
+txn aaaaaaaa-aaaa-aaaa-aaaa-aaaaaaaaaaaa:2
+ins t 2
+end
+txn aaaaaaaa-aaaa-aaaa-aaaa-aaaaaaaaaaaa:3
+ins t 3
+end
+txn aaaaaaaa-aaaa-aaaa-aaaa-aaaaaaaaaaaa:4
+ins t 4
+end
+txn aaaaaaaa-aaaa-aaaa-aaaa-aaaaaaaaaaaa:5
+ins t 5
+end
+txn aaaaaaaa-aaaa-aaaa-aaaa-aaaaaaaaaaaa:6
+ins t 6
+end
+txn aaaaaaaa-aaaa-aaaa-aaaa-aaaaaaaaaaaa:7
+ins t 7
+end
+txn aaaaaaaa-aaaa-aaaa-aaaa-aaaaaaaaaaaa:8
+ins t 8
+end
+close
+done
+";
+
+/// What the eight transactions leave.
+const EIGHT_ROWS: &str = "executed aaaaaaaa-aaaa-aaaa-aaaa-aaaaaaaaaaaa:1-8
+row t 1
+row t 2
+row t 3
+row t 4
+row t 5
+row t 6
+row t 7
+row t 8
+";
+
+/// Of eight workers each takes one of eight transactions before any is committed, and each commits one.
+#[test]
+fn each_of_eight_commits_one(rt: HostRuntime) -> Result<(), Fail> {
+    let alloc = rt.alloc();
+    let gate = Assembly::of(EIGHT_SEATS);
+    let book = book_of_bundle(&rt, alloc, EIGHT_INSERTS, Order::BySource, 8, &gate);
+    assert_eq!(rt; commits_to(alloc, book, EIGHT_ROWS), Some(8));
+    assert_eq!(rt; gate.committed.load(Ordering::SeqCst), 8);
+    assert!(rt; gate.is_complete());
+    let gate = Assembly::of(EIGHT_SEATS);
+    assert!(rt;
+        answers(
+            &rt,
+            alloc,
+            EIGHT_INSERTS,
+            Order::BySource,
+            8,
+            &gate,
+            EIGHT_ROWS
+        )
+    );
+    assert_eq!(rt; gate.committed.load(Ordering::SeqCst), 8);
+    assert!(rt; gate.is_complete());
     Ok(())
 }
 
@@ -137,11 +206,12 @@ fn rollbacks_of_first<N: Naming + Send + Sync, R: Threads + Wait + Abort + Sync>
     assert!(rt; has_taken);
     let WorkersEnd { passes, fault } = run_workers(rt, alloc, &replica, passes, &NoGate);
     assert!(rt; fault.is_none());
-    let Ok(mut book) = replica.close(passes) else {
+    let Ok(book) = replica.close(passes) else {
         return Ok(None);
     };
     let count = count_rollbacks(&book, 1);
-    Ok(shows_twenty(alloc, &mut book)?.then_some(count))
+    let commits = commits_to(alloc, Some(book), TWENTY);
+    Ok((commits == Some(20)).then_some(count))
 }
 
 /// A seat that owns a transaction when the workers begin rolls it back, once, and it is committed all the

@@ -1,10 +1,8 @@
 //! Threads that apply shares of the sources.
-ghost use Rattle.std.specs.Prelude.{◌≡◌};
-ghost use Rattle.serving.specs.Servable.{IsServable};
 
 use row_parts::list_whole;
 use rows::Rows;
-use serving::written_is_servable;
+use serving::keeps_servable;
 use source_shares::{Merged, merge_by_shares};
 use std::alloc::Global;
 use std::process::Abort;
@@ -40,23 +38,26 @@ close
 done
 ";
 
-/// How many rows and GTIDs were merged.
+/// How many parts, rows and GTIDs were merged.
 fn count_merged<R: Threads + Sync>(
     rt: &R,
     alloc: Global,
     opening: &Rows,
     merged: &Merged,
-) -> Option<(usize, u128)> {
+) -> Option<(usize, usize, u128)> {
     match list_whole(rt, alloc, opening, &merged.parts) {
-        Ok(rows) => Some((rows.len(), merged.executed.count())),
+        Ok(rows) => Some((merged.parts.len(), rows.len(), merged.executed.count())),
         Err(_) => None,
     }
 }
 
-/// How many rows and GTIDs two shares of a bundle's sources have together; None where no shares are made.
-fn merged_by_two<R: Threads + Sync>(rt: &R, alloc: Global, bundle: &Bundle) -> Option<(usize, u128)>
-    requires { IsServable bundle.now }
-{
+/// How many shares of a bundle's sources are made of at most two, and how many rows and GTIDs they have together; None where none are made.
+fn merged_by_two<R: Threads + Sync>(
+    rt: &R,
+    alloc: Global,
+    bundle: &Bundle,
+) -> Option<(usize, usize, u128)> {
+    keeps_servable(bundle);
     let opened = bundle.opening_set();
     let rows = bundle.rows();
     let found = merge_by_shares(rt, alloc, opened, rows, bundle.journals(), 2);
@@ -73,9 +74,8 @@ fn two_sources_are_two_shares(rt: HostRuntime) -> Result<(), Fail> {
     let Ok(bundle) = decode_bundle(alloc, TWO_SOURCES.as_bytes()) else {
         return Err(Fail::from("no bundle"));
     };
-    written_is_servable();
     let found = merged_by_two(&rt, alloc, &bundle);
     drop(bundle);
-    assert_eq!(rt; found, Some((2, 3)));
+    assert_eq!(rt; found, Some((2, 2, 3)));
     Ok(())
 }

@@ -1,10 +1,9 @@
-//! Of two workers one is held with tickets in its deque, and the other steals one.
+//! The deques of tickets: first in, first out; and of two workers one is held with tickets in its deque, and the other steals one.
 
-use super::gates::{core_with_twenty, two_workers};
-use applier::Gate;
-use commit_ledger::Blanks;
+use super::books::{book_of_workers, commits_to};
+use super::twenty::{TWENTY, core_with_twenty};
+use applier::{Gate, Hand, Ticket, make_hands};
 use gtid_text::Gtid;
-use std::marker::Brand;
 use std::sync::Wait;
 use std::sync::atomic::{AtomicU64, Ordering};
 use std::test::Fail;
@@ -51,8 +50,6 @@ impl Gate for Bait {
         }
     }
 
-    fn after_prepare(&self, _seat: u8) {}
-
     fn after_commit(&self, _seat: u8, _gtid: Gtid) {}
 
     fn after_steal(&self, _seat: u8) {
@@ -66,7 +63,35 @@ fn a_worker_steals(rt: HostRuntime) -> Result<(), Fail> {
     let alloc = rt.alloc();
     let core = core_with_twenty(alloc)?;
     let gate = Bait::new();
-    two_workers::<Brand, _, _>(&rt, alloc, Blanks::new(2), core, &gate)?;
+    let book = book_of_workers(&rt, alloc, core, 2, &gate);
+    assert_eq!(rt; commits_to(alloc, book, TWENTY), Some(20));
     assert!(rt; gate.stolen.load(Ordering::SeqCst) != 0);
     Ok(())
+}
+
+/// Of three tickets the owner pops the first, the other steals the second, and the owner pops the
+/// third.
+#[test]
+fn first_in_first_out(rt: HostRuntime) -> Result<(), Fail> {
+    let mut all = make_hands(rt.alloc(), 2)?;
+    let first = &mut all[0];
+    for place in 0..3usize {
+        assert!(rt; first.push(Ticket { channel: 0, place }).is_ok());
+    }
+    let one = first.pop().map(|ticket| ticket.place);
+    let two = steal_first(&mut all[1]);
+    let first = &mut all[0];
+    let three = first.pop().map(|ticket| ticket.place);
+    let four = first.pop().map(|ticket| ticket.place);
+    let five = steal_first(&mut all[1]);
+    assert_eq!(rt; (one, two, three), (Some(0), Some(1), Some(2)));
+    assert_eq!(rt; (four, five), (None, None));
+    Ok(())
+}
+
+fn steal_first(hand: &mut Hand) -> Option<usize> {
+    if hand.count() == 0 {
+        return None;
+    }
+    hand.steal(0).map(|ticket| ticket.place)
 }

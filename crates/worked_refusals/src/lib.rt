@@ -4,7 +4,8 @@
 //!
 //! Two seats by turns make all calls of a shared replica: a refused call leaves no receipt and executes nothing, and made again it has its
 //! reply. A worker that is refused memory leaves at most its own GTID, and the drain does the rest. A drain that was refused memory ends
-//! at its second call where the first would have ended.
+//! at its second call where the first would have ended. A reader of a bundle that was refused memory at one of its pieces is refused it from
+//! then on, and gives no part of the bundle.
 #![tactic(auto)]
 
 #[cfg(test)]
@@ -13,6 +14,8 @@ mod calls;
 mod ends;
 #[cfg(test)]
 mod hands;
+#[cfg(test)]
+mod readers;
 #[cfg(test)]
 mod seats;
 #[cfg(test)]

@@ -90,13 +90,9 @@ impl Gate for Marks {
         self.of(seat).prepared.fetch_add(1, Ordering::SeqCst);
     }
 
-    fn after_prepare(&self, _seat: u8) {}
-
     fn after_commit(&self, seat: u8, _gtid: Gtid) {
         self.of(seat).committed.fetch_add(1, Ordering::SeqCst);
     }
-
-    fn after_steal(&self, _seat: u8) {}
 }
 
 /// A channel is opened and positioned, and receives entries.

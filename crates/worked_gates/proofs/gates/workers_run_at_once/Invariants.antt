@@ -1,5 +1,0 @@
-use Rattle.worked_gates.proofs.gates.workers_run_at_once.Given as goal
-
--- the ledgers that were just opened, and the core that is shared
-abbrev pub ghosts-two_workers : goal.ghosts-two_workers
-ghosts-two_workers g a = record { steps_name = a.blanks.steps.name; commits_name = a.blanks.commits.name; seats = a.blanks.steps.parts; opening = a.core }
