@@ -14,6 +14,7 @@ from random import Random
 from . import commands, random_scripts, scripts
 from .formats import Journal, bundle_lines, journal_lines, read_bundle
 from .gtids import GtidSet
+from .histories import objection
 from .ordered import VERSIONS, Failovers, OrderedAudit, is_borne_out
 from .logs import imported
 from .random_bundles import SOURCES, BundleMaker
@@ -50,6 +51,10 @@ class Run:
         output, status = commands.answer(self.words, lambda: self.given)
         return Ended(output, status, "" if status < 2 else None)
 
+    def objection(self, _ended: Ended, _play: Callable[[str], str]) -> str | None:
+        """What is wrong with what a program did beside that, or None. `replica_script` answers a script."""
+        return None
+
 
 @dataclass(frozen=True)
 class OrderedRun(Run):
@@ -63,6 +68,22 @@ class OrderedRun(Run):
         if is_borne_out(OrderedAudit(read_bundle(self.given, VERSIONS)), ended.output.removesuffix("\n")):
             return ended
         return Ended(f"by all orders otherwise than {ended.output}", ended.status, ended.said)
+
+
+@dataclass(frozen=True)
+class HistoryRun(Run):
+    """A run of `apply --by replica --history` on a bundle whose text is whole."""
+
+    def wanted(self) -> Ended:
+        """What the reference does; the history isn't fixed."""
+        ended = Run(self.program, tuple(it for it in self.words if it not in ("--by", "replica", "--history")), self.given).wanted()
+        return Ended(ended.output, ended.status, None)
+
+    def objection(self, ended: Ended, play: Callable[[str], str]) -> str | None:
+        """What is wrong with the history: none where the keys aren't sound."""
+        if ended.output.startswith(("executed ", "does-not-apply ")):
+            return objection(read_bundle(self.given, VERSIONS), ended.output, ended.said or "", int(self.words[-1]), play)
+        return f"a history of {ended.output!r}" if ended.said else None
 
 
 @dataclass(frozen=True)
@@ -132,6 +153,16 @@ def ordered(chance: Random) -> list[Run]:
     if maker.is_one_in(4) or OrderedAudit(bundle).verdict() == "sound":
         runs += gtidrep(text, f"apply --ordered --workers {chance.choice([1, 1, 2, 4])}")
     return runs
+
+
+def histories(chance: Random) -> list[Run]:
+    """A bundle, mostly one that can be merged, applied by workers that share a replica, who tell what they did."""
+    maker, version = BundleMaker(chance), chance.choice([1, 2])
+    is_ordered = maker.is_one_in(3)
+    bundle = Failovers(chance).bundle() if is_ordered else maker.bundle(version == 2)
+    text = text_of(bundle_lines(bundle, 2 if bundle.opening else version))
+    words = ("apply", "--by", "replica", "--history", *(["--ordered"] if is_ordered else []), "--workers")
+    return [HistoryRun("gtidrep", (*words, str(workers)), text) for workers in (1, chance.choice([2, 3, 4]), chance.choice([8, 64]))]
 
 
 def faults(chance: Random) -> list[Run]:
@@ -285,6 +316,7 @@ COMMAND_KINDS: dict[str, Callable[[Random], list[Run]]] = {
     "ordered": ordered,
     "faults": faults,
     "imports": imports,
+    "histories": histories,
 }
 SCRIPT_KINDS: dict[str, Callable[[Random], Made]] = {"scripts": random_scripts.one_replica, "networks": random_scripts.network}
 KINDS = [*SCRIPT_KINDS, *COMMAND_KINDS]
