@@ -11,3 +11,8 @@ pub mod Sharing
 pub mod Asking
 pub mod Wholes
 pub mod Deciding
+pub mod Waiting
+pub mod Telling
+pub mod Moving
+pub mod Permuting
+pub mod Logged

@@ -3,6 +3,7 @@ ghost use Rattle.ordered_replicas.specs.Faithful.{FaithfulRunsMerge, EqualSetsEq
 ghost use Rattle.ordered_replicas.specs.Whole.{ServedIsFaithful};
 ghost use Rattle.ordered_replicas.specs.Served.{ServedIsJoined, ServedAreJoined};
 ghost use Rattle.ordered_replicas.specs.Deciding.{ServedRunsDecide, ServedRunsHoldAll};
+ghost use Rattle.ordered_replicas.specs.Exact.{RunsAreOfLogs, LogsDecideRows};
 
 /// After every faithful run of a sound world the executed set is closed, the rows held are those
 /// that it denotes, under each key is the row of its last writer, no channel is stopped, no
@@ -54,4 +55,16 @@ pub fn served_runs_decide()
 /// and holds the rows that these denote.
 pub fn served_runs_hold_all()
     ensures { ServedRunsHoldAll }
+{}
+
+/// After every run from an opening, with no premise: the log applies to the opening rows and leaves the rows, the
+/// executed set is the opening set with the log's GTIDs, each of them new, and the own journal is an end of the log.
+pub fn runs_are_of_logs()
+    ensures { RunsAreOfLogs }
+{}
+
+/// Two replicas opened alike, with equal executed sets, whose logs have equal transactions under equal GTIDs,
+/// hold equal rows.
+pub fn logs_decide_rows()
+    ensures { LogsDecideRows }
 {}

@@ -18,12 +18,18 @@
 //! that is served whole joins the executed set. `served_runs_decide` and `served_runs_hold_all`: a run that serves all journals, each on
 //! some channel or on several, executes all of them exactly where the world's list applies, and then holds the rows of all.
 //!
+//! With no world and no premise on keys, order or journals: what a replica holds is what its own log makes of the opening rows
+//! (`runs_are_of_logs`), and two replicas opened alike, whose logs have equal transactions under equal GTIDs and whose executed sets are
+//! equal, hold equal rows (`logs_decide_rows`). The log of a run is what was appended to the own journal, in order, whatever was purged
+//! since. Where an order matters, a commit is refused, and its channel stops.
+//!
 //! Not stated: that a run goes on, that is, that some seat takes what is ready.
 #![tactic(auto)]
 
 mod laws;
 
 pub use laws::{
-    equal_sets_equal_rows, faithful_runs_merge, fronts_are_faithful, runs_go_on, served_are_joined,
-    served_is_faithful, served_is_joined, served_runs_decide, served_runs_hold_all,
+    equal_sets_equal_rows, faithful_runs_merge, fronts_are_faithful, logs_decide_rows,
+    runs_are_of_logs, runs_go_on, served_are_joined, served_is_faithful, served_is_joined,
+    served_runs_decide, served_runs_hold_all,
 };

@@ -24,7 +24,8 @@ use Rattle.ordered_replicas.proofs.Invariant.{IsIn}
 use Rattle.rings.specs.Sending.{is_entry}
 use Rattle.rings.specs.Runs.{pair}
 use Rattle.rings.proofs.Prefixes.{IsOnce}
-use Rattle.rings.proofs.Contents.{is_in_entry, pair_from, pairs_append}
+use Rattle.ordered_replicas.proofs.Permuting.{is_in_entry}
+use Rattle.rings.proofs.Contents.{pair_from, pairs_append}
 
 and_then : (t : Result Rows RowFault) (f g : Rows → Result Rows RowFault) → ((t >>= f) >>= g) ≡ (t >>= λ r. f r >>= g)
 and_then (Ok r) f g = refl

@@ -1,7 +1,6 @@
 -- The transactions of a list in which no GTID occurs twice, as the order of a world.
-use Rattle.std.proofs.Common.{◌≡◌, ◌≢◌, ℕ, zero, suc, true, false, ◌||◌, ◌⊎◌, inl, inr, List, [], ◌∷◌, ◌++◌, map, Some, refl, sym, ap, ◌∙◌}
-use Rattle.std.specs.Prelude.{slice_get}
-use Rattle.std.proofs.lemmas.Bool.{cases_Bool, or_cases, or_left, or_right, or_parts, or_from}
+use Rattle.std.proofs.Common.{◌≡◌, ◌≢◌, false, ◌||◌, ◌⊎◌, inl, inr, List, [], ◌∷◌, ◌++◌, map, Some, refl, sym, ap, ◌∙◌}
+use Rattle.std.proofs.lemmas.Bool.{cases_Bool, or_parts, or_from}
 use Rattle.gtid_text.specs.declared.Gtid.{Gtid}
 use Rattle.gtid_text.specs.Gtids.{same_gtid}
 use Rattle.gtid_text.proofs.SameGtid.{same_itself, same_is_equal}
@@ -12,28 +11,12 @@ use Rattle.ordered_history.specs.World.{AreDistinct}
 use Rattle.ordered_history.proofs.Entries.{all_of, found_in}
 use Rattle.ordered_journals.proofs.Covering.{entry_of, entries_append}
 use Rattle.ordered_replicas.proofs.Invariant.{IsIn}
+use Rattle.ordered_replicas.proofs.Permuting.{is_in_entry}
 use Rattle.rings.specs.Sending.{is_entry}
 use Rattle.rings.specs.Runs.{pair}
 use Rattle.rings.proofs.Prefixes.{IsOnce}
 
 -- ---- members
-
-pub is_in_entry : (es : List Entry) (x : Entry) → IsIn x es → is_entry es x.gtid ≡ true
-is_in_entry [] x i = absurd i
-is_in_entry (e ∷ es) x (inl same) = or_left (same_gtid x.gtid e.gtid) (is_entry es x.gtid) (ap (λ (y : Entry). same_gtid x.gtid y.gtid) same ∙ same_itself x.gtid)
-is_in_entry (e ∷ es) x (inr later) = or_right (same_gtid x.gtid e.gtid) (is_entry es x.gtid) (is_in_entry es x later)
-
-pub entry_is_in : (es : List Entry) (g : Gtid) → is_entry es g ≡ true → (x : Entry) × IsIn x es × (g ≡ x.gtid)
-entry_is_in [] g h = cc
-entry_is_in (e ∷ es) g h = elim (or_cases (same_gtid g e.gtid) (is_entry es g) h) [
-  | inl here ↦ (e, inl refl, same_is_equal g e.gtid here)
-  | inr later ↦ let r = entry_is_in es g later in (r.0, inr r.1, r.2)
-]
-
-pub in_place : (es : List Entry) (x : Entry) → IsIn x es → (i : ℕ) × (slice_get es i ≡ Some x)
-in_place [] x i = absurd i
-in_place (e ∷ es) x (inl same) = (zero, ap Some same)
-in_place (e ∷ es) x (inr later) = let r = in_place es x later in (suc r.0, r.1)
 
 pub in_append : (xs ys : List Entry) (x : Entry) → IsIn x (xs ++ ys) → IsIn x xs ⊎ IsIn x ys
 in_append [] ys x i = inr i

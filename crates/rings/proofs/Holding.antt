@@ -35,7 +35,8 @@ use Rattle.rings.specs.Runs.{made_at, events_at, local_at, local_of, locals, IsI
 use Rattle.network.proofs.Moving.{step_moves}
 use Rattle.rings.proofs.Applying.{still_applies}
 use Rattle.rings.proofs.Prefixes.{IsOnce}
-use Rattle.rings.proofs.Contents.{in_left, in_right, in_place, pair_from, pairs_append, pairs_distinct, content_there}
+use Rattle.ordered_replicas.proofs.Permuting.{in_place}
+use Rattle.rings.proofs.Contents.{in_left, in_right, pair_from, pairs_append, pairs_distinct, content_there}
 use Rattle.rings.proofs.Numbering.{IsInOrder, step_learns, own_is_faithful}
 use Rattle.rings.proofs.Nodes.{changed, changed_here, changed_other, set_there, set_other, all_after}
 use Rattle.rings.proofs.Deciding.{IsAct, IsPosition, IsReceive, IsMade, decides}

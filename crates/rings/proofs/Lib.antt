@@ -11,3 +11,6 @@ pub mod Holding
 pub mod Reaching
 pub mod Merging
 pub mod Small
+pub mod Relaying
+pub mod Equalling
+pub mod SharedRun

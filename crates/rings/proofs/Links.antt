@@ -41,7 +41,7 @@ use Rattle.rings.specs.Sending.{is_entry}
 use Rattle.rings.proofs.Prefixes.{next_is_sent}
 use Rattle.network.proofs.Moving.{step_moves}
 use Rattle.network.proofs.Coming.{stands_received, received_stands}
-use Rattle.rings.proofs.Contents.{entry_is_in}
+use Rattle.ordered_replicas.proofs.Permuting.{entry_is_in}
 use Rattle.rings.proofs.Logs.{IsLog, unpurged}
 use Rattle.rings.proofs.Nodes.{eqb_other}
 

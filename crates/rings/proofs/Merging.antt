@@ -31,7 +31,8 @@ use Rattle.network.specs.Machine.{Making, Decision, decide, Step, step, replies,
 use Rattle.rings.specs.Sending.{is_entry}
 use Rattle.rings.specs.Runs.{NetworkRun, AreApart, IsInTurnAt, IsInTurn, AreInTurn, local_at, local_of, locals, world_of, start, end, run_locals, run_world, run_of, extension}
 use Rattle.rings.specs.Rings.{HasNoMore, site_of, RingsMerge, LeavesMerged, RingsGoOn, ApartIsInTurn}
-use Rattle.rings.proofs.Contents.{in_place, in_left, in_right, is_in_entry, pairs_distinct}
+use Rattle.ordered_replicas.proofs.Permuting.{in_place, is_in_entry}
+use Rattle.rings.proofs.Contents.{in_left, in_right, pairs_distinct}
 use Rattle.rings.proofs.Numbering.{step_learns}
 use Rattle.rings.proofs.Numbers.{Numbers, own_done, numbers_step}
 use Rattle.rings.proofs.Holding.{Holds, histories, run_holds}
@@ -67,14 +68,14 @@ one_place (x ∷ ids) d (suc i) (suc k) own e f =
     let two = and_parts (not (list_any (λ other. eqb other x) ids)) (ids_distinct ids) d in
     ap suc (one_place ids two.1 i k own e f)
 
-opened_at : (ids : List ℕ) (schema : List Table) (rows : Rows) (i : ℕ) (node : Node) → slice_get (new_nodes ids schema rows) i ≡ Some node → (own : ℕ) × (slice_get ids i ≡ Some own) × (opened_node schema rows own ≡ node)
+pub opened_at : (ids : List ℕ) (schema : List Table) (rows : Rows) (i : ℕ) (node : Node) → slice_get (new_nodes ids schema rows) i ≡ Some node → (own : ℕ) × (slice_get ids i ≡ Some own) × (opened_node schema rows own ≡ node)
 opened_at ids schema rows i node e = get_map_cases (opened_node schema rows) ids i node e
 
 no_channel_known : (rows : Rows) (g : Gtid) → Known (machine.opening set.empty rows) g → is_entry [] g ≡ true
 no_channel_known rows g (inl done) = in_nothing g done
 no_channel_known rows g (inr w) = none_some w.1 w.2
 
-numbers_open : (ids : List ℕ) (schema : List Table) (rows : Rows) → ids_distinct ids ≡ true → Numbers (new_nodes ids schema rows) []
+pub numbers_open : (ids : List ℕ) (schema : List Table) (rows : Rows) → ids_distinct ids ≡ true → Numbers (new_nodes ids schema rows) []
 numbers_open ids schema rows distinct = record {
   sites = λ i k a b p q same.
       let u = opened_at ids schema rows i a p in
@@ -93,7 +94,7 @@ numbers_open ids schema rows distinct = record {
 
 -- ---- the world of a run
 
-place_in : (es : List Entry) (i : ℕ) (x : Entry) → slice_get es i ≡ Some x → IsIn x es
+pub place_in : (es : List Entry) (i : ℕ) (x : Entry) → slice_get es i ≡ Some x → IsIn x es
 place_in [] i x e = none_some x e
 place_in (y ∷ es) zero x e = inl (same_Some y x e)
 place_in (y ∷ es) (suc i) x e = inr (place_in es i x e)

@@ -33,7 +33,8 @@ use Rattle.rings.specs.Sending.{is_entry}
 use Rattle.rings.specs.Runs.{local_at, local_of}
 use Rattle.rings.proofs.Prefixes.{IsOnce, found_parts, Parts}
 use Rattle.network.proofs.Moving.{Journals, step_moves}
-use Rattle.rings.proofs.Contents.{entry_is_in, once_push}
+use Rattle.ordered_replicas.proofs.Permuting.{entry_is_in}
+use Rattle.rings.proofs.Contents.{once_push}
 use Rattle.rings.proofs.Numbering.{step_learns}
 use Rattle.rings.proofs.Nodes.{set_there, set_other}
 use Rattle.rings.proofs.Deciding.{IsAct, IsPosition, IsReceive, IsMade, decides}

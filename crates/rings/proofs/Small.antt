@@ -23,7 +23,7 @@ use Rattle.apply_channel.specs.Channels.{Received}
 use Rattle.replica_core.specs.declared.event.Spot.{Spot}
 use Rattle.replica_core.specs.declared.event.Event.TheVariants.{Local}
 use Rattle.replica_core.specs.declared.event.Reply.TheVariants.{NumbersUsedUp}
-use Rattle.replica_core.specs.State.{Site, State, owns, owner, entry_at, seat_numbers}
+use Rattle.replica_core.specs.State.{Site, State, Seats, owns, owner, entry_at, seat_numbers}
 use Rattle.replica_core.specs.Machine as machine
 use Rattle.replica_core.specs.Machine.{is_free, next_number, local_answer}
 use Rattle.ordered_history.specs.SmallWorld.{accounts, account, insertion, nth_of, opens_first, opens_second}
@@ -54,7 +54,7 @@ some_numbers : 0 < greatest
 unfolding greatest
 some_numbers = omega arith
 
-least_is_one : (test : ℕ → Bool) → test 1 ≡ true → least_number test ≡ Some 1
+pub least_is_one : (test : ℕ → Bool) → test 1 ≡ true → least_number test ≡ Some 1
 unfolding least_number
 least_is_one test h = first_found test greatest some_numbers h
 
@@ -62,13 +62,14 @@ find_none : (p : ℕ → Bool) (xs : List ℕ) → ((x : ℕ) → p x ≡ false)
 find_none p [] all = refl
 find_none p (x ∷ xs) all = ap (λ b. cond b (Some x) (find p xs)) (all x) ∙ find_none p xs all
 
-unowned : (g : Gtid) → owner fresh g ≡ None
-unowned g = find_none (owns fresh g) seat_numbers (λ seat. ap (λ (o : Option Spot). option_map_or (λ (h : Gtid). same_gtid h g) (option_map (λ (e : Received). e.gtid) (option_and_then (entry_at fresh) o)) false) (get-empty nat_cmp seat))
+-- where no seat has taken a place
+pub unowned : (s : State) → s.seats ≡ finmap.empty → (g : Gtid) → owner s g ≡ None
+unowned s idle g = find_none (owns s g) seat_numbers (λ seat. ap (λ (o : Option Spot). option_map_or (λ (h : Gtid). same_gtid h g) (option_map (λ (e : Received). e.gtid) (option_and_then (entry_at s) o)) false) (ap (λ (seats : Seats). finmap.get seats seat) idle ∙ get-empty nat_cmp seat))
 
 one_is_free : (own : ℕ) → is_free (site own) fresh 1 ≡ true
 one_is_free own =
     ap (λ b. not b && is_none (owner fresh (gtid own 1))) (set.contains-empty gtid_cmp (gtid own 1))
-    ∙ ap is_none (unowned (gtid own 1))
+    ∙ ap is_none (unowned fresh refl (gtid own 1))
 
 next_is_one : (own : ℕ) → next_number (site own) fresh ≡ Some 1
 next_is_one own = least_is_one (is_free (site own) fresh) (one_is_free own)

@@ -2,3 +2,5 @@ pub mod Sending
 pub mod Runs
 pub mod Rings
 pub mod SmallRun
+pub mod Exact
+pub mod SharedRun

@@ -1,7 +1,9 @@
 //! The laws of networks. Each function's contract is a law, and its body is empty.
 ghost use Rattle.rings.specs.Sending.{NextIsSent};
 ghost use Rattle.rings.specs.Rings.{RingsMerge, RingsGoOn, ApartIsInTurn};
+ghost use Rattle.rings.specs.Exact.{NetworksAreExact, ExactGoesOn};
 ghost use Rattle.rings.specs.SmallRun.{ApartRunsExist};
+ghost use Rattle.rings.specs.SharedRun.{SharedRunsExist};
 
 /// The first entry of a journal that a channel has not is the next one of what the source sends.
 pub fn next_is_sent()
@@ -31,4 +33,22 @@ pub fn apart_is_in_turn()
 /// There is such a run: two nodes each commit a transaction of their own.
 pub fn apart_runs_exist()
     ensures { ApartRunsExist }
+{}
+
+/// After every run of a network, with no premise on keys: what each node holds is what its own log makes of the
+/// opening rows; what is in a log was committed by Local, and no GTID was made twice; and any two nodes with equal
+/// executed sets hold equal rows.
+pub fn networks_are_exact()
+    ensures { NetworksAreExact }
+{}
+
+/// The same of the nodes that further events leave after a run.
+pub fn exact_goes_on()
+    ensures { ExactGoesOn }
+{}
+
+/// There is a run in which two nodes write one key, and neither has executed what the other wrote. Each node commits
+/// both transactions, its own first, and both end with equal executed sets.
+pub fn shared_runs_exist()
+    ensures { SharedRunsExist }
 {}

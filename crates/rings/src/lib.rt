@@ -12,13 +12,22 @@
 //! with commits at two nodes. `run` and `step` make the calls of `Network` and have this as their clause `merged`, for a network that was
 //! opened and has run before (`rings_go_on`).
 //!
+//! With no premise on keys (`networks_are_exact`): what each node holds is what its own log makes of the opening rows, each transaction of a
+//! log was committed by Local, no GTID was made twice, and so any two nodes with equal executed sets hold equal rows, whatever conflicted
+//! on the way. Where an order matters, the commit that comes in the wrong one is refused, its channel stops, and its node never has that
+//! set. The opening rows must be rows of tables. `run` and `step` have this as their clause `exact` (`exact_goes_on`). `shared_runs_exist`
+//! shows a run that is not in turn: two nodes commit two transactions that share a key, each its own first, and end with equal executed sets.
+//!
 //! The proof uses that a channel receives a prefix of what its source's whole history sends, purged entries among it (`next_is_sent`).
 //!
-//! Not stated: that a transaction goes round, or that nodes ever have equal executed sets. That depends on which events are made.
+//! Not stated of every run: that a transaction goes round, or that nodes ever have equal executed sets. That depends on which events are made.
 #![tactic(auto)]
 
 mod laws;
 mod runs;
 
-pub use laws::{apart_is_in_turn, apart_runs_exist, next_is_sent, rings_go_on, rings_merge};
+pub use laws::{
+    apart_is_in_turn, apart_runs_exist, exact_goes_on, networks_are_exact, next_is_sent,
+    rings_go_on, rings_merge, shared_runs_exist,
+};
 pub use runs::{run, step};
