@@ -5,3 +5,4 @@ pub mod Histories
 pub mod Sounding
 pub mod Naming
 pub mod Standing
+pub mod Exact

@@ -2,6 +2,7 @@
 //! body is empty.
 ghost use Rattle.ordered_bundles.specs.Bundles.{JournalsAreFaithful, ChainsAreEnough};
 ghost use Rattle.ordered_bundles.specs.Cases.{VerdictsNameFaultsInOrder};
+ghost use Rattle.ordered_bundles.specs.Exact.{EqualUnionsEqualRows};
 ghost use Rattle.ordered_bundles.specs.Meaning.{KeysInOrderMean, SoundInOrderMeans};
 
 /// A journal whose history is a linear extension is faithful.
@@ -31,4 +32,10 @@ pub fn keys_in_order_mean()
 /// have it so.
 pub fn verdicts_name_faults_in_order()
     ensures { VerdictsNameFaultsInOrder }
+{}
+
+/// Journals over one opening that agree in contents and whose unions are equal result in equal rows: by the audit
+/// of sources or by that in one order, and in whatever orders the journals have the transactions.
+pub fn equal_unions_equal_rows()
+    ensures { EqualUnionsEqualRows }
 {}
