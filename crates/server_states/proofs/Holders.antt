@@ -1,7 +1,6 @@
 -- How many servers have a GTID, counted along the sets.
 use Rattle.std.proofs.Common.{◌≡◌, ℕ, ◌+◌, Bool, true, false, ◌&&◌, ◌||◌, List, [], ◌∷◌, refl, sym, ap, subst, ◌∙◌, arith}
-use Rattle.gtid_report.specs.declared.fault.Fault.{Fault}
-use Rattle.std.specs.Prelude.{nat_le, Result, Ok, Err, if◌then◌else◌}
+use Rattle.std.specs.Prelude.{nat_le, Ok, if◌then◌else◌}
 use Rattle.std.specs.FinSet as set
 use Rattle.std.proofs.lemmas.Bool.Decides.{nat_tests}
 use Rattle.gtid_text.specs.Gtids.{gtid_cmp}
@@ -11,7 +10,7 @@ use Rattle.gtid_set.specs.Sets.{Gtids}
 use Rattle.gtid_report.specs.SetAnswers.{◌>>=◌, small}
 use Rattle.server_states.specs.Servers.{ServerValue}
 use Rattle.server_states.specs.States.{TogetherValue, none, whole, with_set, with_servers, holders}
-use Rattle.server_states.proofs.Kept.{Made, made, same_ok, small_kept, whole_kept}
+use Rattle.server_states.proofs.Kept.{made, same_ok, small_kept, whole_kept}
 
 -- so many have it of those that were gone through
 pub record Counts (t : TogetherValue) (g : Gtid) (n : ℕ) : Type 0 where

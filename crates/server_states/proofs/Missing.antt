@@ -1,6 +1,6 @@
 -- The gaps of a set, by its runs.
-use Rattle.std.proofs.Common.{◌≡◌, ℕ, ◌+◌, ◌<◌, ◌≤◌, Bool, true, false, not, ◌&&◌, ◌||◌, List, [], ◌∷◌, refl, sym, ap, subst, ◌∙◌, arith}
-use Rattle.std.specs.Prelude.{nat_le, ◌==◌, Result, Ok, Err}
+use Rattle.std.proofs.Common.{◌≡◌, ℕ, ◌<◌, ◌≤◌, Bool, true, false, not, ◌&&◌, ◌||◌, List, [], ◌∷◌, refl, sym, ap, subst, ◌∙◌, arith}
+use Rattle.std.specs.Prelude.{nat_le, Ok}
 use Rattle.std.specs.List.{list_any, list_all}
 use Rattle.std.specs.FinSet as set
 use Rattle.std.proofs.lemmas.Bool.Decides.{nat_tests}
@@ -13,10 +13,9 @@ use Rattle.gtid_set.specs.Spans.{has, is_merged, is_before}
 use Rattle.gtid_set.specs.Runs.{runs}
 use Rattle.gtid_set.proofs.SetLemmas.{contains-interval, contains-set_of}
 use Rattle.gtid_set.proofs.RunLemmas.{runs_are_merged, set_of_runs}
-use Rattle.gtid_report.specs.SetAnswers.{◌>>=◌, small}
-use Rattle.gtid_report.specs.declared.fault.Fault.{Fault}
+use Rattle.gtid_report.specs.SetAnswers.{small}
 use Rattle.server_states.specs.States.{whole, fill_intervals, gaps, IsGap}
-use Rattle.server_states.proofs.Kept.{Made, made, same_ok, small_kept, whole_kept}
+use Rattle.server_states.proofs.Kept.{made, same_ok, small_kept, whole_kept}
 
 -- one of the spans ends there or later
 abbrev reaches : List Span → Gtid → Bool

@@ -1,10 +1,9 @@
 -- Servers and what each has executed, as lines of a text. The lines are our own.
-use Rattle.std.specs.Prelude.{ℕ, ◌+◌, ◌==◌, Bool, true, false, List, [], ◌∷◌, ◌++◌, codes, Option, Some, None, Result, Ok, Err, if◌then◌else◌, nat_lt, length}
+use Rattle.std.specs.Prelude.{ℕ, ◌+◌, ◌==◌, List, [], ◌∷◌, ◌++◌, codes, Option, Some, None, Result, Ok, Err, if◌then◌else◌, nat_lt, length}
 use Rattle.std.specs.List.{before_first, after_first, position_or_len}
 use Rattle.std.specs.Str.{bytes_eq}
 use Rattle.std.specs.Str.Lines.{lines}
 use Rattle.std.specs.FinSet as set
-use Rattle.gtid_text.specs.Gtids.{gtid_cmp}
 use Rattle.gtid_text.specs.declared.SourceId.{SourceId}
 use Rattle.gtid_set.specs.Sets.{Gtids}
 use Rattle.gtid_report.specs.SetAnswers.{◌>>=◌, set_word, source_word}

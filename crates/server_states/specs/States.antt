@@ -1,8 +1,7 @@
 -- The executed sets of several servers, compared. (MySQL 8.0 Reference Manual, "Functions Used with Global Transaction Identifiers
 -- (GTIDs)" and "GTID Life Cycle", for sets and gaps; the lines are our own.)
-use Rattle.std.specs.Prelude.{◌≡◌, ℕ, ◌+◌, ◌<◌, ◌≤◌, nat_lt, true, false, List, [], ◌∷◌, ◌++◌, codes, get_or, length, Result, Ok, Err, if◌then◌else◌}
+use Rattle.std.specs.Prelude.{◌≡◌, ◌⊎◌, ℕ, ◌+◌, ◌<◌, ◌≤◌, nat_lt, true, false, List, [], ◌∷◌, ◌++◌, codes, Result, Ok, Err, if◌then◌else◌}
 use Rattle.std.specs.FinSet as set
-use Rattle.gtid_text.specs.Gtids.{gtid_cmp}
 use Rattle.gtid_text.specs.declared.Gtid.{Gtid}
 use Rattle.gtid_text.specs.declared.Span.{Span}
 use Rattle.gtid_set.specs.Sets.{Gtids, gtid, interval, source_count, most_sources}
@@ -10,7 +9,7 @@ use Rattle.gtid_set.specs.Runs.{runs}
 use Rattle.txn_journal.specs.WrittenSets.{set_text}
 use Rattle.gtid_report.specs.SetAnswers.{◌>>=◌, small}
 use Rattle.gtid_report.specs.declared.fault.Fault.{Fault}
-use Rattle.gtid_report.specs.declared.fault.Fault.TheVariants.{Refused}
+use Rattle.gtid_report.specs.declared.fault.Fault.TheVariants.{Memory, Refused}
 use Rattle.gtid_report.specs.declared.refusal.Refusal.TheVariants.{SourcesFull}
 use Rattle.server_states.specs.Servers.{ServerValue, servers_in}
 
@@ -69,22 +68,58 @@ pub record IsGap (s : Gtids) (g : Gtid) : Type 0 where
 abbrev pub line : List ℕ → List ℕ → Gtids → List ℕ
 line name word s = name ++ word ++ set_text s ++ 10 ∷ []
 
+-- the sets of a server's lines
+pub record SetsValue : Type 0 where
+  pub lacking : Gtids
+  pub gaps : Gtids
+  pub alone : Gtids
+
 -- what a server lacks, its gaps, and what it alone has
-abbrev pub server_lines : TogetherValue → ServerValue → Result (List ℕ) Fault
-server_lines t s =
+abbrev pub server_sets : TogetherValue → ServerValue → Result SetsValue Fault
+server_sets t s =
     small (set.difference t.all s.executed) >>= λ lacking.
     gaps s.executed >>= λ missing.
     small (set.difference s.executed t.shared) >>= λ alone.
-    Ok (line s.name (codes " lacks ") lacking ++ line s.name (codes " gaps ") missing ++ line s.name (codes " alone ") alone)
+    Ok (record { lacking = lacking; gaps = missing; alone = alone })
+
+abbrev pub lines_of_sets : List ℕ → SetsValue → List ℕ
+lines_of_sets name sets = line name (codes " lacks ") sets.lacking ++ line name (codes " gaps ") sets.gaps ++ line name (codes " alone ") sets.alone
+
+abbrev pub server_lines : TogetherValue → ServerValue → Result (List ℕ) Fault
+server_lines t s = server_sets t s >>= λ sets. Ok (lines_of_sets s.name sets)
 
 -- the lines of each server, after a text
 abbrev pub lines_behind : List ℕ → TogetherValue → List ServerValue → Result (List ℕ) Fault
 lines_behind text t [] = Ok text
 lines_behind text t (s ∷ ss) = server_lines t s >>= λ more. lines_behind (text ++ more) t ss
 
+-- the union of all
+abbrev pub union_line : TogetherValue → List ℕ
+union_line t = line (codes "union") (codes " ") t.all
+
 abbrev pub states_of : List ServerValue → Result (List ℕ) Fault
-states_of ss = with_servers none ss >>= λ t. lines_behind (line (codes "union") (codes " ") t.all) t ss
+states_of ss = with_servers none ss >>= λ t. lines_behind (union_line t) t ss
 
 -- the union of all, and the lines of each server
 abbrev pub states_in : List ℕ → Result (List ℕ) Fault
 states_in text = servers_in text >>= states_of
+
+-- ---- servers that were compared
+
+-- servers, and their sets together
+pub record ComparedValue : Type 0 where
+  pub servers : List ServerValue
+  pub together : TogetherValue
+
+abbrev pub compared_lines : ComparedValue → Result (List ℕ) Fault
+compared_lines c = lines_behind (union_line c.together) c.together c.servers
+
+-- the lines can be made; or it is the refusal, or memory was refused
+abbrev pub CanBeMade : Result (List ℕ) Fault → Result (Unit {0}) Fault → Type 0
+CanBeMade want (Ok u) = (lines : List ℕ) × (want ≡ Ok lines)
+CanBeMade want (Err f) = (f ≡ Memory) ⊎ (want ≡ Err f)
+
+-- the lines of what was compared are the answer; or it is the refusal, or memory was refused
+abbrev pub Compares : Result (List ℕ) Fault → Result ComparedValue Fault → Type 0
+Compares want (Ok c) = (lines : List ℕ) × (want ≡ Ok lines) × (compared_lines c ≡ Ok lines)
+Compares want (Err f) = (f ≡ Memory) ⊎ (want ≡ Err f)

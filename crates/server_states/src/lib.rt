@@ -15,6 +15,6 @@ mod together;
 
 pub use filling::gaps;
 pub use laws::{gaps_lie_below, shared_by_two};
-pub use lines::states;
+pub use lines::{Compared, compare};
 pub use server::{Server, read_servers};
 pub use together::{Together, all_together};
