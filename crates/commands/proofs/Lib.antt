@@ -14,3 +14,5 @@ pub mod InPieces
 pub mod FoundTexts
 pub mod LinesPassed
 pub mod Appended
+pub mod WrittenLines
+pub mod Exact

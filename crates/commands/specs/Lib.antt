@@ -13,3 +13,4 @@ pub mod Version
 pub mod Listings
 pub mod Explaining
 pub mod Telling
+pub mod Exact

@@ -111,6 +111,19 @@ pub record IsCutOff {S W : Type 0} (answering : Answering) (old new : StreamsVal
   pub wrote : Begins old.output.written new.output.written printed.text
   pub counted : new.output.failed ≡ one_more old.output.failed
 
+-- Memory was refused behind a prefix of the answer, which was written.
+pub record HasBegun {S W : Type 0} (answering : Answering) (old new : StreamsValue S W) : Type 0 where
+  pub printed : Printed
+  pub answer : IsAnswer answering old.input new.input printed
+  pub wrote : Begins old.output.written new.output.written printed.text
+  pub calm : new.output.failed ≡ old.output.failed
+
+-- Memory was refused, with nothing written or behind a prefix of the answer; or reading failed, and nothing was written; or writing failed.
+abbrev pub HasStopped : {S W : Type 0} → Answering → StreamsValue S W → StreamsValue S W → RunFault → Type 0
+HasStopped answering old new Memory = (new.output ≡ old.output) ⊎ HasBegun answering old new
+HasStopped answering old new Read = (new.output ≡ old.output) × IsUnread answering old.input new.input
+HasStopped answering old new Write = IsCutOff answering old new
+
 -- Memory was refused, or reading failed, and nothing was written; or writing failed.
 abbrev pub HasFailed : {S W : Type 0} → Answering → StreamsValue S W → StreamsValue S W → RunFault → Type 0
 HasFailed answering old new Memory = new.output ≡ old.output

@@ -6,7 +6,8 @@
 //! bytes that it holds and its failed calls (`Output`), each where it is known.
 //!
 //! Each command has two clauses. `done`: what was read is what the answer is for, and what was written is the answer and nothing else.
-//! `failed`: where memory was refused or a read failed nothing was written; where a write failed, a prefix of the answer.
+//! `failed`: where memory was refused or a read failed nothing was written; where a write failed, a prefix of the answer. `run_states`, whose
+//! answer is written server by server, may have written a prefix of it where memory was refused (`HasStopped`).
 //!
 //! `run_explain`, `run_import` and `apply_and_tell` take a second writer, for notes: after the answer has been written, `run_explain` writes
 //! what explains it, `apply_and_tell` the lines of the history, and `run_import` what a verdict on the bundle won't see, or, where the
@@ -17,6 +18,9 @@
 //! give; where they are one, the verdict, or, where that is Sound, the union of all journals with the rows that it denotes (`rows_of`);
 //! or E8 or E9, where a set that they need is full. So the merge theorem is about a call that the program makes.
 //!
+//! Two bundles with equal tables, opening rows, opening sets and unions, whose transactions are equal under equal GTIDs, have one answer of
+//! `apply`, by whichever order, where that has rows (`equal_unions_equal_answers`).
+//!
 //! `apply` has two ways with one answer (`comes` of both). `apply_decoded` is what a replica does: it opens, positions and serves a replica,
 //! and then so many workers share it, with a history that `apply_and_tell` shows; what they leave is drained. The proof uses the history
 //! alone: it is a run of takes, commits and rollbacks, and `conclude` of `serving` does the rest. Where the history cannot be closed, a
@@ -25,6 +29,9 @@
 //! `merge_decoded` is the fast way to that answer. It chooses by the number of workers and the order: one thread; threads that apply shares
 //! of the sources, and one thread where these share a key; or, where sources may share keys, a second thread that audits the keys beside the
 //! serving, which only read the bundle both.
+//!
+//! `apply_bundle`, `apply_and_tell` and the functions `run_` are a program's last call: what they read may be left to the end of the process, and
+//! not freed. `apply_decoded`, `merge_decoded` and `apply_journals` free what they made and don't give back.
 //!
 //! Not proved: that workers do anything (what they leave is drained), and speed. A call that a signal interrupts is made again, up to
 //! 1,000 times.
@@ -43,6 +50,7 @@ mod history_command;
 mod import_command;
 mod import_fault;
 mod import_refusal;
+mod laws;
 mod list_command;
 mod log_places;
 mod merge_way;
@@ -71,6 +79,7 @@ pub use edge::{Failed, Outcome, RunFault, Sink, Source};
 pub use explain_command::run_explain;
 pub use history_command::apply_and_tell;
 pub use import_command::run_import;
+pub use laws::equal_unions_equal_answers;
 pub use list_command::run_list;
 pub use merge_way::merge_decoded;
 pub use parallel::apply_journals;

@@ -2,6 +2,7 @@
 ghost use Rattle.std.specs.Prelude.{◌≡◌, IfOk, IfErr, OnOk, OnErr};
 ghost use Rattle.std.specs.Io.KnownBytes.{Appends};
 ghost use Rattle.commands.specs.Edge.{input_of, output_of, one_more, Begins, HasRead, ReadFault};
+ghost use Rattle.commands.specs.States.{HasWritten, HasBroken};
 ghost use Rattle.commands.specs.Texts.{HasAllCome, HasFound};
 
 use crate::answer::Answer;
@@ -85,10 +86,23 @@ impl<S: Source, W: Sink> Streams<S, W> {
         read_text(alloc, &mut self.reader)
     }
 
+    /// Writes a part of an answer.
+    pub(crate) fn write(&mut self, text: &str) -> Result<(), RunFault>
+        ensures input { self.new.input ≡ self.old.input }
+        ensures done { OnOk result (HasWritten self.old.output self.new.output text.now) }
+        ensures fault { IfErr result (HasBroken self.old.output self.new.output text.now) }
+    {
+        match self.writer.write(text.as_bytes()) {
+            Ok(()) => Ok(()),
+            Err(_) => Err(RunFault::Write),
+        }
+    }
+
     /// Writes an answer.
     pub(crate) fn send(&mut self, answer: &Answer) -> Result<Outcome, RunFault>
         ensures input { self.new.input ≡ self.old.input }
         ensures done { OnOk result (Appends self.old.output.written self.new.output.written answer.now.text) }
+        ensures calm { OnOk result (self.new.output.failed ≡ self.old.output.failed) }
         ensures ends { IfOk result (λ outcome. outcome ≡ answer.now.outcome) }
         ensures write { IfErr result (λ f. f ≡ RunFault.Write) }
         ensures begins { OnErr result (Begins self.old.output.written self.new.output.written answer.now.text) }

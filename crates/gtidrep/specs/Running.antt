@@ -1,7 +1,7 @@
 -- What the program does for each command: which answer of crate `commands` it writes.
 use Rattle.std.specs.Prelude.{◌≡◌, ℕ, List, Option, option_map}
 use Rattle.commands.specs.Edge.{StreamsValue}
-use Rattle.commands.specs.Printed.{Printed, Answering, at_once, to_all, IsDone, HasFailed}
+use Rattle.commands.specs.Printed.{Printed, Answering, at_once, to_all, IsDone, HasFailed, HasStopped}
 use Rattle.commands.specs.SetCommand.{set_answering}
 use Rattle.commands.specs.Positions.{asking_in, to_asking}
 use Rattle.commands.specs.Bundles.{Audits, Upgrades, Applies}
@@ -18,9 +18,10 @@ use Rattle.gtidrep.specs.declared.line.Listing.TheVariants as listing
 use Rattle.gtidrep.specs.declared.line.Command.{Command}
 use Rattle.gtidrep.specs.declared.line.Command.TheVariants.{Set, Position, Audit, Upgrade, States, Import, Version, Apply, Tell}
 
--- a command answers on standard output alone, or reports there and on standard error
+-- a command answers on standard output alone, at once or in parts, or reports there and on standard error
 pub data Doing : Type 1 where
   answers : Answering → Doing
+  answers_in_parts : Answering → Doing
   reports : (List ℕ → Printed → List ℕ → Type 0) → Doing
 
 -- what each command does
@@ -31,7 +32,7 @@ doing_of (Audit order listing.Verdict) = answers (to_all (Audits order))
 doing_of (Audit order listing.All) = answers (to_all Lists)
 doing_of (Audit order listing.Explained) = reports (Explains order)
 doing_of Upgrade = answers (to_all Upgrades)
-doing_of States = answers (to_all IsStatesAnswer)
+doing_of States = answers_in_parts (to_all IsStatesAnswer)
 doing_of (Import grants is_explained) = reports (Imports grants is_explained)
 doing_of Version = answers (at_once printed_version)
 doing_of (Apply way order workers) = answers (to_all (Applies order))
@@ -41,9 +42,11 @@ module _ {S W E : Type 0} (written : E → Option (List ℕ)) (failed : E → �
   -- it is done, with standard error as it was, or with the notes on it
   abbrev pub HasRun : Doing → Outcome → Type 0
   HasRun (answers answering) outcome = IsDone answering before after outcome × (new ≡ old)
+  HasRun (answers_in_parts answering) outcome = IsDone answering before after outcome × (new ≡ old)
   HasRun (reports notes) outcome = HasReported written failed notes old new before after outcome
 
-  -- it has failed, with standard error as it was, or with the notes on it cut off
+  -- it has failed, with standard error as it was, or with the notes on it cut off; of an answer in parts there may be some
   abbrev pub HasNotRun : Doing → RunFault → Type 0
   HasNotRun (answers answering) fault = HasFailed answering before after fault × (new ≡ old)
+  HasNotRun (answers_in_parts answering) fault = HasStopped answering before after fault × (new ≡ old)
   HasNotRun (reports notes) fault = HasNotReported written failed notes old new before after fault
