@@ -3,7 +3,7 @@
 
 use crate::sources::bundle;
 use std::test::Fail;
-use txn_journal::{decode_v2, encode_bundle_v2, encode_v2};
+use txn_journal::{decode_v2, encode_bundle_v2, encode_v2, stamps};
 
 pub(crate) const BUNDLE: &str = concat!(
     "bundle 2\n",
@@ -79,5 +79,18 @@ fn a_journal_is_written(rt: HostRuntime) -> Result<(), Fail> {
 fn numbers_are_read(rt: HostRuntime) -> Result<(), Fail> {
     let read = decode_v2(rt.alloc(), NUMBERED.as_bytes())?;
     assert!(rt; read.last_committed() == [0, 0, 1].as_slice());
+    Ok(())
+}
+
+/// The update of row 1 touches what the first entry wrote; the first two touch nothing that was written before.
+#[test]
+fn stamps_of_a_journal(rt: HostRuntime) -> Result<(), Fail> {
+    let alloc = rt.alloc();
+    let bundle = bundle(alloc)?;
+    assert!(rt; bundle.journals().len() == 2);
+    if let Some(journal) = bundle.journals().first() {
+        let numbers = stamps(alloc, bundle.schema(), journal)?;
+        assert!(rt; numbers.as_slice() == [0, 0, 1].as_slice());
+    }
     Ok(())
 }

@@ -8,7 +8,7 @@
 //! gives up a commit that stays early, and leaves a channel that is stopped. Of three tickets the owner pops the first and the third, and
 //! the other worker steals the second. Of two workers one is held with tickets in its deque, until the other has stolen one of them. Of
 //! transactions of eight, seven and one changes the first alone is prepared without the lock, and committed by its patch. Two sources that
-//! share no key are applied as two shares, and merged.
+//! share no key are applied as two shares, and merged. Two bundles that have the same transactions in two orders have one answer.
 #![tactic(auto)]
 
 #[cfg(test)]
@@ -33,5 +33,7 @@ mod shares;
 mod steals;
 #[cfg(test)]
 mod twenty;
+#[cfg(test)]
+mod unions;
 #[cfg(test)]
 mod worlds;
