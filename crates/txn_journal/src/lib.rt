@@ -50,12 +50,12 @@ pub use bundle_reader::{BundleReader, any_cut_of_bundles, decode_bundle, decode_
 pub use bundle_writer::{bundle_text_v2, encode_bundle_v2};
 pub use draft::MAX_ENTRIES;
 pub use fault::{Cause, JournalFault};
-/// The `last_committed` of each entry, which `encode_v2` writes as its stamp.
-pub use logical_timestamps::last_committed_of as stamps;
 pub use laws::{
     one_bundle, one_spelling, rows_in_listed_order, taken_in_front, timestamped_read_back,
     upgrade_keeps_bundle,
 };
+/// The `last_committed` of each entry, which `encode_v2` writes as its stamp.
+pub use logical_timestamps::last_committed_of as stamps;
 pub use parsed_lines::ParsedLines;
 pub use reader::{Reader, any_cut, decode, decode_v2};
 pub use timestamped_journal::TimestampedJournal;
