@@ -13,8 +13,8 @@ use crate::slot::{Slot, copy_unless, keys_unless, same_entries};
 use dependency_graph::Graph;
 use gtid_set::{GtidSet, SetFault};
 use gtid_text::Gtid;
-use indexmap::IndexMap;
 use journal::Entry;
+use key_table::KeyTable;
 use rows::{Changes, Name, Schema, Transaction};
 use std::alloc::{AllocError, Global};
 use std::marker::Model;
@@ -43,7 +43,7 @@ pub struct Channel {
     stopped: bool,
     asked: Option<GtidSet>,
     slots: Vec<Slot>,
-    places: IndexMap<Gtid, Option<usize>>,
+    places: KeyTable<Gtid, Option<usize>>,
     graph: Graph,
     received: GtidSet,
 }
@@ -96,7 +96,7 @@ impl Channel {
             stopped: false,
             asked: None,
             slots: Vec::new(alloc),
-            places: IndexMap::new(alloc),
+            places: KeyTable::new(alloc),
             graph: Graph::start(alloc),
             received: GtidSet::empty(alloc),
         }

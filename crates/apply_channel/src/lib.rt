@@ -7,11 +7,11 @@
 //! `receive` adds an entry at the next place or leaves all as it was, `mark_executed` drops the transactions of a GTID at all its places,
 //! `blocker` is the least earlier place that is not executed and shares a key, `next_ready` the least place that has no blocker.
 //!
-//! How it is kept (`IsKept`): a node of `dependency_graph` for each place; a hashed table from each GTID that waits to its last open
+//! How it is kept (`IsKept`): a node of `dependency_graph` for each place; a table (`key_table`) from each GTID that waits to its last open
 //! place, and in each slot the one before it with the same GTID. The images of an executed place are dropped at once. All room is made
 //! before anything changes. Only `open`, `receive` and `copy` can fail or allocate.
 //!
-//! Not proved: speed. By the code `receive` and `mark_executed` take a few hashed look-ups for each key and place; measured, 200,000 places
+//! Not proved: speed. By the code `receive` and `mark_executed` take a few look-ups for each key and place; measured, 200,000 places
 //! with two keys each are received, asked for their blocker and executed in 0.4 s.
 #![tactic(auto)]
 

@@ -11,13 +11,13 @@ ghost use Rattle.apply_channel.specs.Kept.{HasPlace, IsOpened, place_of};
 use dependency_graph::Graph;
 use gtid_set::{GtidSet, SetFault};
 use gtid_text::Gtid;
-use indexmap::IndexMap;
+use key_table::KeyTable;
 use rows::Key;
 use std::alloc::{AllocError, Global};
 use std::mem;
 
 /// The last place of a GTID.
-pub(crate) fn last_place(places: &IndexMap<Gtid, Option<usize>>, gtid: &Gtid) -> Option<usize>
+pub(crate) fn last_place(places: &KeyTable<Gtid, Option<usize>>, gtid: &Gtid) -> Option<usize>
     ensures { result ≡ place_of places.now.entries gtid.now }
 {
     match places.get(gtid) {
@@ -28,24 +28,22 @@ pub(crate) fn last_place(places: &IndexMap<Gtid, Option<usize>>, gtid: &Gtid) ->
 
 /// Gives the GTID an entry, if it has none: its last place.
 fn open_entry(
-    places: &mut IndexMap<Gtid, Option<usize>>,
+    places: &mut KeyTable<Gtid, Option<usize>>,
     gtid: Gtid,
 ) -> Result<Option<usize>, AllocError>
     ensures ok { OnOk result (IsOpened gtid places.old.entries places.new.entries) }
     ensures place { IfOk result (λ place. place ≡ place_of places.old.entries gtid) }
     ensures err { OnErr result (IsUnchanged places.old places.new) }
 {
-    let Ok(entry) = places.entry(gtid) else {
-        return Err(AllocError);
-    };
-    let place = entry.or_insert(None);
-    Ok(*place)
+    let place = last_place(places, &gtid);
+    places.open(gtid, None)?;
+    Ok(place)
 }
 
 /// The last place of a GTID, which then has an entry, unless the caller wants none.
 pub(crate) fn open_unless(
     unless: bool,
-    places: &mut IndexMap<Gtid, Option<usize>>,
+    places: &mut KeyTable<Gtid, Option<usize>>,
     gtid: &Gtid,
 ) -> Result<Option<usize>, AllocError>
     ensures same { (g : GtidValue) → place_of places.new.entries g ≡ place_of places.old.entries g }
@@ -62,17 +60,15 @@ pub(crate) fn open_unless(
 }
 
 /// Writes the last place of a GTID that has an entry.
-pub(crate) fn put_place(places: &mut IndexMap<Gtid, Option<usize>>, gtid: &Gtid, place: usize)
+pub(crate) fn put_place(places: &mut KeyTable<Gtid, Option<usize>>, gtid: &Gtid, place: usize)
     requires { HasPlace places.old.entries gtid.now }
     ensures { (g : GtidValue) → place_of places.new.entries g ≡ cond (same_gtid g gtid.now) (Some place) (place_of places.old.entries g) }
 {
-    if let Some(last) = places.get_mut(gtid) {
-        *last = Some(place);
-    }
+    places.replace(gtid, Some(place));
 }
 
 /// Removes the entry of a GTID, which then has no place.
-fn drop_entry(places: &mut IndexMap<Gtid, Option<usize>>, gtid: &Gtid)
+fn drop_entry(places: &mut KeyTable<Gtid, Option<usize>>, gtid: &Gtid)
     ensures { (g : GtidValue) → place_of places.new.entries g ≡ cond (same_gtid g gtid.now) None (place_of places.old.entries g) }
 {
     places.swap_remove(gtid);
@@ -80,7 +76,7 @@ fn drop_entry(places: &mut IndexMap<Gtid, Option<usize>>, gtid: &Gtid)
 
 /// The last place of a GTID is executed: the one before replaces it in the table, or the entry is removed.
 pub(crate) fn take_place(
-    places: &mut IndexMap<Gtid, Option<usize>>,
+    places: &mut KeyTable<Gtid, Option<usize>>,
     gtid: &Gtid,
     before: Option<usize>,
 )

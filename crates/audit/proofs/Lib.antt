@@ -8,6 +8,7 @@ pub mod Closings
 pub mod Numbers
 pub mod Sounding
 pub mod Hashed
+mod Inserted
 pub mod Apart
 pub mod Rising
 pub mod Bringing

@@ -34,7 +34,8 @@
 //! of a source the end of a run of the opening set is looked up, so that the set's size costs nothing.
 //!
 //! Cost, from the code and not proved: n log n in entries at most; the mark of each key is looked for once. Measured: 570,000
-//! transactions a second of 1,000,000. The hash has a fixed seed: whoever writes a journal can make an audit slow, never wrong.
+//! transactions a second of 1,000,000. Whoever writes a journal may choose keys whose
+//! hashes or marks collide: the tables' worst case does not depend on them (`key_table`), and where marks do keys are looked for.
 #![tactic(auto)]
 
 mod applying;

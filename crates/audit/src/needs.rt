@@ -8,8 +8,8 @@ ghost use Rattle.audit.specs.Gaps.{needs_over};
 
 use crate::touches::Touches;
 use gtid_text::Gtid;
-use indexmap::IndexMap;
 use journal::Entry;
+use key_table::KeyTable;
 use rows::{Schema, keys_touched};
 use std::alloc::{AllocError, Global};
 use std::marker::Model;
@@ -41,7 +41,7 @@ impl GtidList {
 /// For each GTID the earlier ones of its source that touched its keys last.
 #[derive(Drop)]
 pub(crate) struct Needs {
-    table: IndexMap<Gtid, GtidList>,
+    table: KeyTable<Gtid, GtidList>,
 }
 
 impl Model for Needs {
@@ -60,7 +60,7 @@ impl Needs {
         ensures { result ≡ finmap.empty }
     {
         Needs {
-            table: IndexMap::new(alloc),
+            table: KeyTable::new(alloc),
         }
     }
 

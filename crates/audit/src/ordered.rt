@@ -6,12 +6,12 @@ ghost use Rattle.audit.specs.Ordered.{AreBelow, AreInOrder, AreTops, IsInOrder, 
 use crate::sources::World;
 use gtid_set::GtidSet;
 use gtid_text::{Gtid, SourceId};
-use indexmap::IndexMap;
 use journal::{Entry, Journal};
+use key_table::KeyTable;
 use std::alloc::{AllocError, Global};
 
 /// Puts the number of a GTID into the table, under its source.
-fn put_top(tops: &mut IndexMap<SourceId, u64>, top: Gtid) -> Result<(), AllocError>
+fn put_top(tops: &mut KeyTable<SourceId, u64>, top: Gtid) -> Result<(), AllocError>
     ensures { OnOk result ((source : ℕ) → top_of tops.new.entries source ≡ (if top.source == source then Some top.number else top_of tops.old.entries source)) }
 {
     let Ok(_) = tops.insert(top.source, top.number) else {
@@ -21,7 +21,7 @@ fn put_top(tops: &mut IndexMap<SourceId, u64>, top: Gtid) -> Result<(), AllocErr
 }
 
 /// A number up to which all numbers of a source are there: that of the table, or that of the opening set.
-fn top_number(tops: &IndexMap<SourceId, u64>, opened: &GtidSet, source: SourceId) -> u64
+fn top_number(tops: &KeyTable<SourceId, u64>, opened: &GtidSet, source: SourceId) -> u64
     ensures { (es : List Entry) → AreTops opened.now es tops.now.entries → AreBelow opened.now es source (result + 1) }
 {
     match tops.get(&source) {
@@ -32,7 +32,7 @@ fn top_number(tops: &IndexMap<SourceId, u64>, opened: &GtidSet, source: SourceId
 
 /// From the last number of one source to that of another. The table keeps that of the source that is left.
 fn turn_to(
-    tops: &mut IndexMap<SourceId, u64>,
+    tops: &mut KeyTable<SourceId, u64>,
     opened: &GtidSet,
     top: Gtid,
     source: SourceId,
@@ -69,7 +69,7 @@ fn next_top(top: Gtid, number: u64) -> Option<Gtid>
 fn is_in_order(alloc: Global, opened: &GtidSet, entries: &[Entry]) -> Result<bool, AllocError>
     ensures { IfOk result (λ yes. yes ≡ true → IsInOrder opened.now entries.now) }
 {
-    let mut tops = IndexMap::new(alloc);
+    let mut tops = KeyTable::new(alloc);
     let mut top = Gtid {
         source: SourceId::from_bits(0),
         number: 0,

@@ -4,7 +4,7 @@ ghost use Rattle.indexmap.specs.IndexMap.{get};
 ghost use Rattle.audit.specs.Marks.{TouchesMarks, owner_of};
 
 use gtid_text::SourceId;
-use indexmap::IndexMap;
+use key_table::KeyTable;
 use std::alloc::{AllocError, Global};
 
 /// A mark, and the source that touched it: 0 where the slot is free.
@@ -19,7 +19,7 @@ struct Slot {
 pub(crate) struct Owners {
     mask: u64,
     slots: Vec<Slot>,
-    rest: IndexMap<u64, SourceId>,
+    rest: KeyTable<u64, SourceId>,
 }
 
 /// How many bits of a mark name its slot, for so many slots or more; at most 22.
@@ -36,7 +36,7 @@ fn slot_bits(count: usize) -> u32
 
 /// A source touches a mark of the rest; whether no other source touched it before.
 fn touch_rest(
-    rest: &mut IndexMap<u64, SourceId>,
+    rest: &mut KeyTable<u64, SourceId>,
     mark: u64,
     source: SourceId,
 ) -> Result<bool, AllocError>
@@ -74,7 +74,7 @@ impl Owners {
         Ok(Owners {
             mask: (1_u64 << bits).wrapping_sub(1),
             slots,
-            rest: IndexMap::new(alloc),
+            rest: KeyTable::new(alloc),
         })
     }
 

@@ -3,14 +3,14 @@ ghost use Rattle.std.specs.Prelude.{◌≡◌, OnOk};
 ghost use Rattle.std.specs.FinSet as set;
 
 use gtid_text::Gtid;
-use indexmap::IndexSet;
+use key_table::KeySet;
 use std::alloc::{AllocError, Global};
 use std::marker::Model;
 
 /// A set of single GTIDs, of any number of sources.
 #[derive(Drop)]
 pub(crate) struct Standing {
-    table: IndexSet<Gtid>,
+    table: KeySet<Gtid>,
 }
 
 impl Model for Standing {
@@ -29,7 +29,7 @@ impl Standing {
         ensures { result ≡ set.empty }
     {
         Standing {
-            table: IndexSet::new(alloc),
+            table: KeySet::new(alloc),
         }
     }
 
@@ -42,9 +42,7 @@ impl Standing {
     pub(crate) fn put(&mut self, gtid: Gtid) -> Result<(), AllocError>
         ensures { OnOk result (self.new ≡ set.insert self.old gtid) }
     {
-        let Ok(_) = self.table.insert(gtid) else {
-            return Err(AllocError);
-        };
+        self.table.insert(gtid)?;
         Ok(())
     }
 }

@@ -9,7 +9,7 @@ ghost use Rattle.world.specs.Folds.{touched_by, shares_with};
 ghost use Rattle.audit.specs.Gaps.{touch_last, last_of_keys, is_own};
 
 use gtid_text::Gtid;
-use indexmap::IndexMap;
+use key_table::KeyTable;
 use rows::{Key, Schema, Transaction, keys_touched};
 use std::alloc::{AllocError, Global};
 use std::marker::Model;
@@ -18,7 +18,7 @@ use world::Verdict;
 /// A GTID that touched each key.
 #[derive(Drop)]
 pub(crate) struct Touches {
-    last: IndexMap<Key, Gtid>,
+    last: KeyTable<Key, Gtid>,
 }
 
 impl Model for Touches {
@@ -38,7 +38,7 @@ impl Touches {
         ensures { result ≡ finmap.empty }
     {
         Touches {
-            last: IndexMap::new(alloc),
+            last: KeyTable::new(alloc),
         }
     }
 

@@ -8,7 +8,7 @@ ghost use Rattle.world.specs.Audit.{first_fault};
 ghost use Rattle.conflict_audit.specs.Applying.{AllTaken, refusal};
 
 use gtid_text::Gtid;
-use indexmap::IndexMap;
+use key_table::KeyTable;
 use rows::{PrepareFault, Rows, Transaction};
 use std::alloc::{AllocError, Global};
 use world::Verdict;
@@ -36,15 +36,13 @@ fn apply_one(
 pub(crate) fn first_refusal(
     alloc: Global,
     rows: &mut Rows,
-    order: &IndexMap<Gtid, Transaction>,
+    order: &KeyTable<Gtid, Transaction>,
 ) -> Result<Option<Verdict>, AllocError>
     requires { AllTaken rows.old.schema order.now.entries }
     ensures { IfOk result (λ found. found ≡ option_map (λ fault. DoesNotApply fault.0 fault.1) (first_fault rows.old.schema order.now.entries rows.old.rows)) }
 {
     for place in 0..order.len() {
-        let Some((gtid, txn)) = order.get_index(place) else {
-            return Ok(None);
-        };
+        let (gtid, txn) = &order.as_slice()[place];
         if let Some(verdict) = apply_one(alloc, rows, gtid, txn)? {
             return Ok(Some(verdict));
         }

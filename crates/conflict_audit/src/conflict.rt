@@ -10,8 +10,8 @@ use crate::naming::name_verdict;
 use crate::turns::out_of_entries;
 use audit::World;
 use gtid_set::GtidSet;
-use indexmap::IndexMap;
 use journal::Journal;
+use key_table::KeyTable;
 use rows::Schema;
 use std::alloc::{AllocError, Global};
 use world::Verdict;
@@ -25,7 +25,7 @@ fn first_out_of_turn(
 ) -> Result<Option<Verdict>, AllocError>
     ensures { IfOk result (λ found. found ≡ conflict_from schema.now (histories_of opened.now journals.now) 0 (histories_of opened.now journals.now) (λ k. no_chain)) }
 {
-    let mut chains = IndexMap::new(alloc);
+    let mut chains = KeyTable::new(alloc);
     for (number, journal) in journals.iter().enumerate() {
         let entries = journal.entries();
         if let Some(out) = out_of_entries(alloc, &mut chains, opened, schema, number, entries)? {

@@ -5,13 +5,13 @@ ghost use Rattle.conflict_audit.specs.Joined.{with_entry, append_new, append_all
 
 use gtid_set::GtidSet;
 use gtid_text::Gtid;
-use indexmap::IndexMap;
 use journal::{Entry, Journal};
+use key_table::KeyTable;
 use rows::Transaction;
 use std::alloc::{AllocError, Global};
 
 /// Puts an entry at the end of an order, unless its GTID is there.
-fn join_entry(order: &mut IndexMap<Gtid, Transaction>, entry: &Entry) -> Result<(), AllocError>
+fn join_entry(order: &mut KeyTable<Gtid, Transaction>, entry: &Entry) -> Result<(), AllocError>
     ensures { OnOk result (order.new.entries ≡ with_entry order.old.entries (entry.now.gtid, entry.now.txn)) }
 {
     if order.contains_key(&entry.gtid) {
@@ -26,7 +26,7 @@ fn join_entry(order: &mut IndexMap<Gtid, Transaction>, entry: &Entry) -> Result<
 
 /// Puts the entries beyond the opening set at the end of an order, where they are not there.
 fn join_entries(
-    order: &mut IndexMap<Gtid, Transaction>,
+    order: &mut KeyTable<Gtid, Transaction>,
     opened: &GtidSet,
     entries: &[Entry],
 ) -> Result<(), AllocError>
@@ -47,10 +47,10 @@ pub(crate) fn join_journals(
     alloc: Global,
     opened: &GtidSet,
     journals: &[Journal],
-) -> Result<IndexMap<Gtid, Transaction>, AllocError>
+) -> Result<KeyTable<Gtid, Transaction>, AllocError>
     ensures { IfOk result (λ order. order.entries ≡ append_all_new [] (histories_of opened.now journals.now)) }
 {
-    let mut order = IndexMap::new(alloc);
+    let mut order = KeyTable::new(alloc);
     for journal in journals {
         join_entries(&mut order, opened, journal.entries())?;
     }

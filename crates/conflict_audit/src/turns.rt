@@ -8,8 +8,8 @@ ghost use Rattle.conflict_audit.specs.Chains.{IsVisitedAt, same_key, chains_of, 
 use crate::chain::Chain;
 use gtid_set::GtidSet;
 use gtid_text::Gtid;
-use indexmap::IndexMap;
 use journal::Entry;
+use key_table::KeyTable;
 use rows::{Key, Schema, keys_touched};
 use std::alloc::{AllocError, Global};
 
@@ -24,7 +24,7 @@ pub(crate) struct OutOfTurn {
 /// The first visit of a key makes its chain.
 fn open_chain(
     alloc: Global,
-    chains: &mut IndexMap<Key, Chain>,
+    chains: &mut KeyTable<Key, Chain>,
     key: &Key,
     reader: usize,
     gtid: &Gtid,
@@ -45,7 +45,7 @@ fn open_chain(
 /// A journal has a GTID next at a key. The result is what has to come before it, if anything.
 fn visit_entry(
     alloc: Global,
-    chains: &mut IndexMap<Key, Chain>,
+    chains: &mut KeyTable<Key, Chain>,
     key: &Key,
     reader: usize,
     gtid: &Gtid,
@@ -53,17 +53,21 @@ fn visit_entry(
     ensures chains { OnOk result (IsVisitedAt reader gtid.now key.now chains.old.entries chains.new.entries) }
     ensures found { IfOk result (λ next. next ≡ expected reader gtid.now (chains_of chains.old.entries key.now)) }
 {
-    if let Some(chain) = chains.get_mut(key) {
-        return chain.visit(reader, gtid);
-    }
-    open_chain(alloc, chains, key, reader, gtid)
+    let Some(mut chain) = chains.replace(key, Chain::new(alloc)) else {
+        return open_chain(alloc, chains, key, reader, gtid);
+    };
+    let next = chain.visit(reader, gtid)?;
+    let Some(_emptied) = chains.replace(key, chain) else {
+        unreachable!()
+    };
+    Ok(next)
 }
 
 /// The same, of all chains.
 #[tactic(auto, using(crate::proofs::Visits::all_visited))]
 fn visit_key(
     alloc: Global,
-    chains: &mut IndexMap<Key, Chain>,
+    chains: &mut KeyTable<Key, Chain>,
     key: &Key,
     reader: usize,
     gtid: &Gtid,
@@ -77,7 +81,7 @@ fn visit_key(
 /// The first of these keys at which a GTID is out of turn.
 fn out_of_keys(
     alloc: Global,
-    chains: &mut IndexMap<Key, Chain>,
+    chains: &mut KeyTable<Key, Chain>,
     keys: &[Key],
     reader: usize,
     gtid: &Gtid,
@@ -98,7 +102,7 @@ fn out_of_keys(
 /// The first entry beyond the opening set that is out of turn.
 pub(crate) fn out_of_entries(
     alloc: Global,
-    chains: &mut IndexMap<Key, Chain>,
+    chains: &mut KeyTable<Key, Chain>,
     opened: &GtidSet,
     schema: &Schema,
     reader: usize,

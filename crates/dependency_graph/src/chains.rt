@@ -6,7 +6,7 @@ ghost use Rattle.slab.specs.Slab.{HasRoomFor};
 ghost use Rattle.rows.specs.declared.change.Key.{Key as KeyValue};
 ghost use Rattle.dependency_graph.specs.Chains.{Holds, HasEntry, HasLast, HasRoom, IsOpened, IsSame, KeepsRoom, Links, Pushes, PopsFirst, edge_at, extend_ends, ends_at, first_of, node_at, with_chain};
 
-use indexmap::IndexMap;
+use key_table::KeyTable;
 use rows::Key;
 use slab::Slab;
 use std::alloc::{AllocError, Global};
@@ -29,7 +29,7 @@ pub struct Ends {
 #[derive(Drop)]
 pub struct Chains {
     pub edges: Slab<Edge>,
-    pub table: IndexMap<Key, Option<Ends>>,
+    pub table: KeyTable<Key, Option<Ends>>,
 }
 
 /// The ends of a chain that ends with this edge now.
@@ -44,15 +44,11 @@ fn extend_ends(at: usize, before: Option<Ends>) -> Ends
 }
 
 /// Gives the key an entry, if it has none.
-fn open_entry(table: &mut IndexMap<Key, Option<Ends>>, key: Key) -> Result<(), AllocError>
+fn open_entry(table: &mut KeyTable<Key, Option<Ends>>, key: Key) -> Result<(), AllocError>
     ensures ok { OnOk result (IsOpened key table.old.entries table.new.entries) }
     ensures err { OnErr result (IsUnchanged table.old table.new) }
 {
-    let Ok(entry) = table.entry(key) else {
-        return Err(AllocError);
-    };
-    entry.or_insert(None);
-    Ok(())
+    table.open(key, None)
 }
 
 impl Chains {
@@ -62,7 +58,7 @@ impl Chains {
     {
         Chains {
             edges: Slab::new(alloc),
-            table: IndexMap::new(alloc),
+            table: KeyTable::new(alloc),
         }
     }
 
@@ -125,9 +121,9 @@ impl Chains {
         ensures ends { (k : KeyValue) → ends_at self.new k ≡ with_chain (ends_at self.old) key.now (Some ends) k }
         ensures stays { (k : KeyValue) → HasEntry self.old k → HasEntry self.new k }
     {
-        if let Some(place) = self.table.get_mut(key) {
-            *place = Some(ends);
-        }
+        let Some(_before) = self.table.replace(key, Some(ends)) else {
+            return;
+        };
     }
 
     /// The key's chain ends with this edge now: the ends that it had.
@@ -138,11 +134,8 @@ impl Chains {
         ensures ends { (k : KeyValue) → ends_at self.new k ≡ with_chain (ends_at self.old) key.now (Some (extend_ends at (ends_at self.old key.now))) k }
         ensures stays { (k : KeyValue) → HasEntry self.old k → HasEntry self.new k }
     {
-        let Some(place) = self.table.get_mut(key) else {
-            return None;
-        };
-        let before = *place;
-        *place = Some(extend_ends(at, before));
+        let before = self.ends(key);
+        self.put_ends(key, extend_ends(at, before));
         before
     }
 

@@ -7,10 +7,8 @@
 //! What a contract sees: a list of numbers (`last_committed_of`), and a table of last writers by key, which `LastWriters::next` reads and
 //! updates for whichever entries the table is of.
 //!
-//! How it is kept: a hashed table has the entry that touched each key last, so that each key of an entry is looked up once. MySQL keeps
+//! How it is kept: a table (`key_table`) has the entry that touched each key last, so that each key of an entry is looked up once. MySQL keeps
 //! hashes of keys, and forgets them where they are too many; here the keys themselves are kept, and all of them.
-//!
-//! Not proved: speed. The hash has a fixed seed.
 #![tactic(auto)]
 
 mod laws;

@@ -4,8 +4,8 @@ ghost use Rattle.std.specs.FinMap as finmap;
 ghost use Rattle.logical_timestamps.specs.Timestamps.{last_committed_of};
 ghost use Rattle.logical_timestamps.specs.Writers.{IsNextLastCommitted, AreNextWriters, writers_after, record_writes, earlier_place, latest_in_turn};
 
-use indexmap::IndexMap;
 use journal::{Entry, Journal};
+use key_table::KeyTable;
 use rows::{Key, Schema, keys_touched};
 use std::alloc::{AllocError, Global};
 use std::marker::Model;
@@ -13,7 +13,7 @@ use std::marker::Model;
 /// The sequence number of the entry that touched each key last.
 #[derive(Drop)]
 pub struct LastWriters {
-    last: IndexMap<Key, u64>,
+    last: KeyTable<Key, u64>,
 }
 
 impl Model for LastWriters {
@@ -33,7 +33,7 @@ impl LastWriters {
         ensures { result ≡ finmap.empty }
     {
         LastWriters {
-            last: IndexMap::new(alloc),
+            last: KeyTable::new(alloc),
         }
     }
 

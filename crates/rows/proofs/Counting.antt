@@ -1,26 +1,22 @@
 -- What a change does to the counts.
-use Rattle.std.proofs.Common.{◌≡◌, ℕ, ◌+◌, Bool, true, false, cond, ◌&&◌, List, [], ◌∷◌, Option, Some, None, Result, Ok, Err, refl, sym, ap, ◌∙◌, subst, arith}
+use Rattle.std.proofs.Common.{◌≡◌, ℕ, ◌+◌, Bool, true, false, cond, ◌&&◌, List, [], ◌∷◌, Option, Some, None, Ok, Err, refl, sym, ap, ◌∙◌, subst, arith}
 use Rattle.std.specs.FinMap.{get}
 use Rattle.std.specs.List.{sum_by}
 use Rattle.row_images.specs.declared.value.Value.{Value}
 use Rattle.row_images.specs.Order.{row_eq}
-use Rattle.row_images.specs.Total.{row_eq_same, row_eq_self}
+use Rattle.row_images.specs.Total.{row_eq_self}
 use Rattle.rows.specs.declared.change.Key.{Key}
 use Rattle.rows.specs.declared.change.Change.{Change}
 use Rattle.rows.specs.declared.change.Change.TheVariants.{Insert, Delete, Update}
 use Rattle.rows.specs.declared.change.Transaction.{Transaction}
-use Rattle.rows.specs.declared.change.RowFault.{RowFault}
 use Rattle.rows.specs.declared.change.RowFault.TheVariants.{RowDiffers}
 use Rattle.rows.specs.declared.schema.Table.{Table}
-use Rattle.rows.specs.Order.{key_eq}
-use Rattle.rows.specs.Total.{key_eq_self}
 use Rattle.rows.specs.Keys.{carried_keys}
-use Rattle.rows.specs.Apply.{Rows, ◌>>=◌, with_row, without_keys, first_taken, first_row, insert_if_free, insert_row, delete_if_same, delete_row, apply_change, apply_from, apply}
+use Rattle.rows.specs.Apply.{Rows, ◌>>=◌, without_keys, first_taken, first_row, insert_if_free, insert_row, delete_if_same, delete_row, apply_change, apply_from, apply}
 use Rattle.rows.specs.WriteSet.{is_among}
 use Rattle.rows.specs.Carriers.{AreCarriers}
 use Rattle.rows.proofs.Local.{bind_ok, get-with_row, get-without_keys}
 use Rattle.rows.proofs.Carriers.{same_ok, insert_free, delete_same, stored_everywhere, all_free, apply_keeps_carriers}
-use Rattle.std.proofs.lemmas.Bool.{or_left}
 use Rattle.std.proofs.lemmas.List.Sums.{sum_by-cons}
 use Rattle.rows.specs.Counting.{one_if, times, count, occurs, taken, given}
 

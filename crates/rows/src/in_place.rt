@@ -15,7 +15,7 @@ use crate::keys::{keeps_keys, key_values};
 use crate::name::Name;
 use crate::schema::{Columns, Schema, Table};
 use crate::steps::{Expected, Step, put, remove, take_all_back};
-use indexmap::IndexMap;
+use key_table::KeyTable;
 use row_images::{KeyValues, Row};
 use std::alloc::Global;
 
@@ -35,7 +35,7 @@ fn key_of(name: &Name, index: u32, values: KeyValues) -> Option<Key>
 
 /// Puts a row under the key of these values.
 fn put_values(
-    carriers: &mut IndexMap<Key, Row>,
+    carriers: &mut KeyTable<Key, Row>,
     log: &mut Vec<Step>,
     name: &Name,
     index: u32,
@@ -59,7 +59,7 @@ fn put_values(
 
 /// Takes away what is under the key of these values.
 fn remove_values(
-    carriers: &mut IndexMap<Key, Row>,
+    carriers: &mut KeyTable<Key, Row>,
     log: &mut Vec<Step>,
     name: &Name,
     index: u32,
@@ -91,7 +91,7 @@ fn expected_if(free: bool) -> Expected<'static>
 /// Puts a row under the primary key of an image.
 fn put_under_primary(
     alloc: Global,
-    carriers: &mut IndexMap<Key, Row>,
+    carriers: &mut KeyTable<Key, Row>,
     log: &mut Vec<Step>,
     table: &Table,
     image: &Row,
@@ -112,7 +112,7 @@ fn put_under_primary(
 /// Puts a row under a unique key of an image, unless that has a null.
 fn put_under_unique(
     alloc: Global,
-    carriers: &mut IndexMap<Key, Row>,
+    carriers: &mut KeyTable<Key, Row>,
     log: &mut Vec<Step>,
     name: &Name,
     index: u32,
@@ -137,7 +137,7 @@ fn put_under_unique(
 /// Puts a row under the unique keys of an image, in order.
 fn put_under_uniques(
     alloc: Global,
-    carriers: &mut IndexMap<Key, Row>,
+    carriers: &mut KeyTable<Key, Row>,
     log: &mut Vec<Step>,
     table: &Table,
     image: &Row,
@@ -171,7 +171,7 @@ fn put_under_uniques(
 /// Puts a row under the keys of an image.
 fn put_under_each(
     alloc: Global,
-    carriers: &mut IndexMap<Key, Row>,
+    carriers: &mut KeyTable<Key, Row>,
     log: &mut Vec<Step>,
     table: &Table,
     image: &Row,
@@ -195,7 +195,7 @@ fn put_under_each(
 /// Takes away what is under a unique key of a row, unless that has a null.
 fn remove_unique(
     alloc: Global,
-    carriers: &mut IndexMap<Key, Row>,
+    carriers: &mut KeyTable<Key, Row>,
     log: &mut Vec<Step>,
     name: &Name,
     index: u32,
@@ -218,7 +218,7 @@ fn remove_unique(
 /// Takes away what is under the unique keys of a row, in order.
 fn remove_uniques(
     alloc: Global,
-    carriers: &mut IndexMap<Key, Row>,
+    carriers: &mut KeyTable<Key, Row>,
     log: &mut Vec<Step>,
     table: &Table,
     row: &Row,
@@ -248,7 +248,7 @@ fn remove_uniques(
 /// Takes away an equal row under the primary key of this one.
 fn remove_primary(
     alloc: Global,
-    carriers: &mut IndexMap<Key, Row>,
+    carriers: &mut KeyTable<Key, Row>,
     log: &mut Vec<Step>,
     table: &Table,
     row: &Row,
@@ -267,7 +267,7 @@ fn remove_primary(
 /// Makes an insert, if all keys are free and there is memory.
 fn insert(
     alloc: Global,
-    carriers: &mut IndexMap<Key, Row>,
+    carriers: &mut KeyTable<Key, Row>,
     log: &mut Vec<Step>,
     schema: &Schema,
     name: &Name,
@@ -295,7 +295,7 @@ fn insert(
 /// Makes a delete, if the row is there and there is memory.
 fn delete(
     alloc: Global,
-    carriers: &mut IndexMap<Key, Row>,
+    carriers: &mut KeyTable<Key, Row>,
     log: &mut Vec<Step>,
     schema: &Schema,
     name: &Name,
@@ -317,7 +317,7 @@ fn delete(
 /// Puts a row in the place of another that carries the same keys, if that is there and there is memory.
 fn replace(
     alloc: Global,
-    carriers: &mut IndexMap<Key, Row>,
+    carriers: &mut KeyTable<Key, Row>,
     log: &mut Vec<Step>,
     schema: &Schema,
     name: &Name,
@@ -346,7 +346,7 @@ fn replace(
 /// Makes an update, if it can be made and there is memory.
 fn update(
     alloc: Global,
-    carriers: &mut IndexMap<Key, Row>,
+    carriers: &mut KeyTable<Key, Row>,
     log: &mut Vec<Step>,
     schema: &Schema,
     name: &Name,
@@ -369,7 +369,7 @@ fn update(
 /// Makes a change, if it can be made and there is memory.
 fn make(
     alloc: Global,
-    carriers: &mut IndexMap<Key, Row>,
+    carriers: &mut KeyTable<Key, Row>,
     log: &mut Vec<Step>,
     schema: &Schema,
     change: &Change,
@@ -392,7 +392,7 @@ fn make(
 /// Makes changes in order, if all can be made and there is memory. Else some are made, and the log has the way back.
 fn make_in_turn(
     alloc: Global,
-    carriers: &mut IndexMap<Key, Row>,
+    carriers: &mut KeyTable<Key, Row>,
     log: &mut Vec<Step>,
     schema: &Schema,
     changes: &[Change],
@@ -412,7 +412,7 @@ fn make_in_turn(
 /// Makes changes in order, if all can be made and there is memory; else nothing changes.
 pub(crate) fn make_all_in_place(
     alloc: Global,
-    carriers: &mut IndexMap<Key, Row>,
+    carriers: &mut KeyTable<Key, Row>,
     schema: &Schema,
     changes: &[Change],
 ) -> bool

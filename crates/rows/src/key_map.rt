@@ -21,7 +21,7 @@ use crate::placing::put_if_free;
 use crate::replacement::put_under_all;
 use crate::schema::Schema;
 use crate::standing::{carrier, first_taken, holds};
-use indexmap::IndexMap;
+use key_table::KeyTable;
 use row_images::Row;
 use std::alloc::{AllocError, Global};
 use std::marker::Model;
@@ -30,7 +30,7 @@ use std::mem;
 /// From each key to the row that carries it.
 #[derive(Drop)]
 pub(crate) struct KeyMap {
-    carriers: IndexMap<Key, Row>,
+    carriers: KeyTable<Key, Row>,
 }
 
 impl Model for KeyMap {
@@ -50,7 +50,7 @@ impl KeyMap {
         ensures { result ≡ map.empty }
     {
         KeyMap {
-            carriers: IndexMap::new(alloc),
+            carriers: KeyTable::new(alloc),
         }
     }
 
@@ -58,7 +58,7 @@ impl KeyMap {
     pub(crate) fn copy(&self) -> Result<KeyMap, AllocError>
         ensures { IfOk result (λ copy. copy ≡ self.now) }
     {
-        let carriers = self.carriers.clone()?;
+        let carriers = self.carriers.copy()?;
         Ok(KeyMap { carriers })
     }
 
@@ -111,10 +111,9 @@ impl KeyMap {
     pub(crate) fn put_over(&mut self, key: &Key, row: Row)
         ensures { self.new ≡ put_over key.now row self.old }
     {
-        let Some(found) = self.carriers.get_mut(key) else {
+        let Some(_before) = self.carriers.replace(key, row) else {
             return;
         };
-        *found = row;
     }
 
     /// Puts a copy of a row under a copy of a key.
@@ -321,7 +320,7 @@ impl KeyMap {
         let Ok(log) = Vec::with_capacity(alloc, 2 * changes.len()) else {
             return Err(PrepareFault::Memory);
         };
-        let carriers = mem::replace(&mut self.carriers, IndexMap::new(alloc));
+        let carriers = mem::replace(&mut self.carriers, KeyTable::new(alloc));
         let mut making = Making::start(carriers, log);
         match making.make_all(alloc, schema, changes) {
             Ok(()) => {

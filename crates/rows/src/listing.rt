@@ -5,19 +5,19 @@ ghost use Rattle.rows.specs.Listing.{key_shown, all_shown, entries_listed, prima
 ghost use Rattle.rows.specs.Order.{key_cmp};
 
 use crate::change::{Key, TableRow};
-use indexmap::IndexMap;
+use key_table::KeyTable;
 use row_images::Row;
 use std::alloc::{AllocError, Global};
 
 /// What is stored under primary keys.
 fn primaries<'a>(
     alloc: Global,
-    carriers: &'a IndexMap<Key, Row>,
+    carriers: &'a KeyTable<Key, Row>,
 ) -> Result<Vec<(&'a Key, &'a Row)>, AllocError>
     ensures { IfOk result (λ list. all_shown list.items ≡ primary_entries carriers.now.entries) }
 {
     let mut list = Vec::new(alloc);
-    for (key, row) in carriers.iter() {
+    for (key, row) in carriers.as_slice() {
         if key.index == 0 {
             list.push((key, row))?;
         }
@@ -102,7 +102,7 @@ fn to_table_rows(alloc: Global, list: &[(&Key, &Row)]) -> Result<Vec<TableRow>, 
 /// The rows under primary keys, lent, by table name, and then by the values of the key.
 pub(crate) fn sort_primary<'a>(
     alloc: Global,
-    carriers: &'a IndexMap<Key, Row>,
+    carriers: &'a KeyTable<Key, Row>,
 ) -> Result<Vec<(&'a Key, &'a Row)>, AllocError>
     ensures { IfOk result (λ list. all_shown list.items ≡ entries_listed (map.from_entries carriers.now.entries)) }
 {
@@ -116,7 +116,7 @@ pub(crate) fn sort_primary<'a>(
 /// The rows under primary keys, by table name, and then by the values of the key.
 pub(crate) fn list_primary(
     alloc: Global,
-    carriers: &IndexMap<Key, Row>,
+    carriers: &KeyTable<Key, Row>,
 ) -> Result<Vec<TableRow>, AllocError>
     ensures { IfOk result (λ list. list.items ≡ rows_listed (map.from_entries carriers.now.entries)) }
 {

@@ -18,7 +18,7 @@ use crate::name::Name;
 use crate::patch::Seen;
 use crate::schema::Schema;
 use crate::standing::{first_taken, holds};
-use indexmap::IndexMap;
+use key_table::KeyTable;
 use row_images::Row;
 use std::alloc::{AllocError, Global};
 use std::marker::Model;
@@ -26,7 +26,7 @@ use std::marker::Model;
 /// Rows that are being changed, with what was written over.
 #[derive(Drop)]
 pub(crate) struct Making {
-    carriers: IndexMap<Key, Row>,
+    carriers: KeyTable<Key, Row>,
     /// Each key that was written, in order, with what was there.
     log: Vec<Seen>,
 }
@@ -48,7 +48,7 @@ impl Model for Making {
 }
 
 /// Room for one more write, and for what puts it back.
-fn make_room(carriers: &mut IndexMap<Key, Row>, log: &mut Vec<Seen>) -> Result<(), AllocError>
+fn make_room(carriers: &mut KeyTable<Key, Row>, log: &mut Vec<Seen>) -> Result<(), AllocError>
     ensures entries { carriers.new.entries ≡ carriers.old.entries }
     ensures log { log.new.items ≡ log.old.items }
     ensures spare { spare carriers.old ≤ spare carriers.new }
@@ -60,7 +60,7 @@ fn make_room(carriers: &mut IndexMap<Key, Row>, log: &mut Vec<Seen>) -> Result<(
 }
 
 /// Puts a row under a key. The result is what was there.
-pub(crate) fn put_in_room(carriers: &mut IndexMap<Key, Row>, key: Key, row: Row) -> Option<Row>
+pub(crate) fn put_in_room(carriers: &mut KeyTable<Key, Row>, key: Key, row: Row) -> Option<Row>
     requires { 0 < spare carriers.old }
     ensures rows { map.from_entries {R = key_cmp} carriers.new.entries ≡ map.insert (map.from_entries carriers.old.entries) key row }
     ensures over { result ≡ map.get (map.from_entries {R = key_cmp} carriers.old.entries) key }
@@ -73,7 +73,7 @@ pub(crate) fn put_in_room(carriers: &mut IndexMap<Key, Row>, key: Key, row: Row)
 }
 
 /// Takes away what is stored under a key, and gives it back.
-fn take_out(carriers: &mut IndexMap<Key, Row>, key: &Key) -> Option<Row>
+fn take_out(carriers: &mut KeyTable<Key, Row>, key: &Key) -> Option<Row>
     ensures rows { map.from_entries {R = key_cmp} carriers.new.entries ≡ map.remove (map.from_entries carriers.old.entries) key.now }
     ensures over { result ≡ map.get (map.from_entries {R = key_cmp} carriers.old.entries) key.now }
     ensures spare { spare carriers.old ≤ spare carriers.new }
@@ -82,7 +82,7 @@ fn take_out(carriers: &mut IndexMap<Key, Row>, key: &Key) -> Option<Row>
 }
 
 /// Puts back what was under a key.
-fn restore(carriers: &mut IndexMap<Key, Row>, seen: Seen)
+fn restore(carriers: &mut KeyTable<Key, Row>, seen: Seen)
     requires { 0 < spare carriers.old }
     ensures rows { map.from_entries {R = key_cmp} carriers.new.entries ≡ put seen.key seen.row (map.from_entries carriers.old.entries) }
     ensures spare { spare carriers.old ≤ spare carriers.new + 1 }
@@ -99,7 +99,7 @@ fn restore(carriers: &mut IndexMap<Key, Row>, seen: Seen)
 }
 
 /// Puts back what was under each of these keys, the last first.
-fn restore_all(carriers: &mut IndexMap<Key, Row>, log: Vec<Seen>)
+fn restore_all(carriers: &mut KeyTable<Key, Row>, log: Vec<Seen>)
     requires { length log.items ≤ spare carriers.old }
     ensures { map.from_entries {R = key_cmp} carriers.new.entries ≡ put_back log.items (map.from_entries carriers.old.entries) }
 {
@@ -142,7 +142,7 @@ fn keys_of_both(
 
 impl Making {
     /// Nothing is made yet.
-    pub(crate) fn start(carriers: IndexMap<Key, Row>, log: Vec<Seen>) -> Making
+    pub(crate) fn start(carriers: KeyTable<Key, Row>, log: Vec<Seen>) -> Making
         requires { length log.items ≡ 0 }
         ensures made { result.made ≡ map.from_entries carriers.entries }
         ensures before { result.before ≡ map.from_entries carriers.entries }
@@ -151,7 +151,7 @@ impl Making {
     }
 
     /// The rows that were made.
-    pub(crate) fn finish(self) -> IndexMap<Key, Row>
+    pub(crate) fn finish(self) -> KeyTable<Key, Row>
         ensures { map.from_entries {R = key_cmp} result.entries ≡ self.made }
     {
         let Making { carriers, .. } = self;
@@ -159,7 +159,7 @@ impl Making {
     }
 
     /// The rows as they were before.
-    pub(crate) fn undo(self) -> IndexMap<Key, Row>
+    pub(crate) fn undo(self) -> KeyTable<Key, Row>
         ensures { map.from_entries {R = key_cmp} result.entries ≡ self.before }
     {
         let Making { carriers, log } = self;

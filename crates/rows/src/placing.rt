@@ -10,24 +10,22 @@ use crate::change::Key;
 use crate::keys::key_values;
 use crate::name::Name;
 use crate::schema::{Columns, Schema, Table};
-use indexmap::IndexMap;
+use key_table::KeyTable;
 use row_images::{KeyValues, Row};
 use std::alloc::Global;
 
 /// Puts a row back at its place.
 #[cold]
 #[inline(never)]
-fn put_back(carriers: &mut IndexMap<Key, Row>, place: usize, row: Row)
+fn put_back(carriers: &mut KeyTable<Key, Row>, place: usize, row: Row)
     requires { place < index_map_len carriers.old }
     ensures { carriers.new.entries ≡ set_value_at carriers.old.entries place row }
 {
-    if let Some(found) = carriers.get_index_mut(place) {
-        *found = row;
-    }
+    carriers.replace_at(place, row);
 }
 
 /// Puts a row under a key after all others, if the key is free and there is memory. The result is whether it was put.
-fn push_under(carriers: &mut IndexMap<Key, Row>, key: Key, row: Row) -> bool
+fn push_under(carriers: &mut KeyTable<Key, Row>, key: Key, row: Row) -> bool
     ensures put { result ≡ true → IsPut (key ∷ []) row (map.from_entries {R = key_cmp} carriers.old.entries) (map.from_entries carriers.new.entries) }
     ensures after { Extends carriers.old.entries carriers.new.entries }
 {
@@ -43,7 +41,7 @@ fn push_under(carriers: &mut IndexMap<Key, Row>, key: Key, row: Row) -> bool
 
 /// Puts a row under the key of these values, if it is free.
 fn push_values(
-    carriers: &mut IndexMap<Key, Row>,
+    carriers: &mut KeyTable<Key, Row>,
     name: &Name,
     index: u32,
     values: KeyValues,
@@ -69,7 +67,7 @@ fn push_values(
 /// Puts a row under its primary key, if it is free.
 fn push_under_primary(
     alloc: Global,
-    carriers: &mut IndexMap<Key, Row>,
+    carriers: &mut KeyTable<Key, Row>,
     table: &Table,
     row: &Row,
 ) -> bool
@@ -85,7 +83,7 @@ fn push_under_primary(
 /// Puts a row under a unique key, if it is free or has a null.
 fn push_under_unique(
     alloc: Global,
-    carriers: &mut IndexMap<Key, Row>,
+    carriers: &mut KeyTable<Key, Row>,
     name: &Name,
     index: u32,
     columns: &Columns,
@@ -106,7 +104,7 @@ fn push_under_unique(
 /// Puts a row under its keys in order, up to one that is taken.
 fn push_under_each(
     alloc: Global,
-    carriers: &mut IndexMap<Key, Row>,
+    carriers: &mut KeyTable<Key, Row>,
     table: &Table,
     row: &Row,
 ) -> bool
@@ -129,7 +127,7 @@ fn push_under_each(
 /// Puts a row of a table under all its keys, if each is free and there is memory; else nothing changes.
 pub(crate) fn put_if_free(
     alloc: Global,
-    carriers: &mut IndexMap<Key, Row>,
+    carriers: &mut KeyTable<Key, Row>,
     schema: &Schema,
     name: &Name,
     row: &Row,

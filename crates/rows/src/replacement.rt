@@ -7,13 +7,13 @@ ghost use Rattle.rows.specs.Order.{key_cmp};
 
 use crate::change::Key;
 use crate::making::put_in_room;
-use indexmap::IndexMap;
+use key_table::KeyTable;
 use row_images::Row;
 use std::alloc::AllocError;
 
 /// Puts a row under each of these keys. Its handles come before the first write.
 fn put_in_turn(
-    carriers: &mut IndexMap<Key, Row>,
+    carriers: &mut KeyTable<Key, Row>,
     keys: &mut Vec<Key>,
     row: &Row,
 ) -> Result<(), AllocError>
@@ -33,7 +33,7 @@ fn put_in_turn(
 
 /// Puts a row under each of these keys, or under none.
 pub(crate) fn put_under_all(
-    carriers: &mut IndexMap<Key, Row>,
+    carriers: &mut KeyTable<Key, Row>,
     mut keys: Vec<Key>,
     row: &Row,
 ) -> Result<(), AllocError>

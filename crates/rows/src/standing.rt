@@ -6,17 +6,17 @@ ghost use Rattle.rows.specs.Apply.{first_taken, first_row, without_keys, delete_
 ghost use Rattle.rows.specs.Order.{key_cmp};
 
 use crate::change::{Key, RowFault};
-use indexmap::IndexMap;
+use key_table::KeyTable;
 
 /// The row that carries a key.
-pub(crate) fn carrier<'a>(carriers: &'a IndexMap<Key, Row>, key: &Key) -> Option<&'a Row>
+pub(crate) fn carrier<'a>(carriers: &'a KeyTable<Key, Row>, key: &Key) -> Option<&'a Row>
     ensures { option_copied result ≡ map.get (map.from_entries {R = key_cmp} carriers.now.entries) key.now }
 {
     carriers.get(key)
 }
 
 /// The number of the first of these keys that a row carries.
-pub(crate) fn first_taken(carriers: &IndexMap<Key, Row>, keys: &[Key]) -> Option<u32>
+pub(crate) fn first_taken(carriers: &KeyTable<Key, Row>, keys: &[Key]) -> Option<u32>
     ensures { result ≡ first_taken keys.now (map.from_entries carriers.now.entries) }
 {
     for key in keys {
@@ -28,7 +28,7 @@ pub(crate) fn first_taken(carriers: &IndexMap<Key, Row>, keys: &[Key]) -> Option
 }
 
 /// The row under the first of these keys.
-fn first_row<'a>(carriers: &'a IndexMap<Key, Row>, keys: &[Key]) -> Option<&'a Row>
+fn first_row<'a>(carriers: &'a KeyTable<Key, Row>, keys: &[Key]) -> Option<&'a Row>
     ensures { option_copied result ≡ first_row keys.now (map.from_entries carriers.now.entries) }
 {
     match keys.first() {
@@ -39,7 +39,7 @@ fn first_row<'a>(carriers: &'a IndexMap<Key, Row>, keys: &[Key]) -> Option<&'a R
 
 /// Whether a row is stored under the first of its keys.
 pub(crate) fn holds(
-    carriers: &IndexMap<Key, Row>,
+    carriers: &KeyTable<Key, Row>,
     keys: &[Key],
     row: &Row,
     change: u32,

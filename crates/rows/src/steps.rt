@@ -7,7 +7,7 @@ ghost use Rattle.indexmap.specs.IndexMap.{index_map_len, insert_entry, insert_in
 ghost use Rattle.rows.specs.Steps.{IsExpected, all_undone, moved_last, rows_in, step_of, undone};
 
 use crate::change::Key;
-use indexmap::IndexMap;
+use key_table::KeyTable;
 use row_images::Row;
 use std::alloc::AllocError;
 
@@ -36,20 +36,17 @@ pub(crate) enum Expected<'a> {
 // ---- the way back
 
 /// Writes a row at a place.
-fn write_at(carriers: &mut IndexMap<Key, Row>, place: usize, row: Row)
+fn write_at(carriers: &mut KeyTable<Key, Row>, place: usize, row: Row)
     ensures entries { carriers.new.entries ≡ set_value_at carriers.old.entries place row }
     ensures spare { spare carriers.new ≡ spare carriers.old }
 {
-    if place >= carriers.len() {
-        return;
-    }
-    if let Some(found) = carriers.get_index_mut(place) {
-        *found = row;
+    if place < carriers.len() {
+        carriers.replace_at(place, row);
     }
 }
 
 /// Moves the last entry to a place, whose entry becomes the last.
-fn move_last(carriers: &mut IndexMap<Key, Row>, place: usize)
+fn move_last(carriers: &mut KeyTable<Key, Row>, place: usize)
     ensures entries { carriers.new.entries ≡ moved_last place carriers.old.entries }
     ensures spare { spare carriers.old ≤ spare carriers.new }
 {
@@ -60,7 +57,7 @@ fn move_last(carriers: &mut IndexMap<Key, Row>, place: usize)
 }
 
 /// Puts a removed entry back.
-fn put_entry(carriers: &mut IndexMap<Key, Row>, place: usize, key: Key, row: Row)
+fn put_entry(carriers: &mut KeyTable<Key, Row>, place: usize, key: Key, row: Row)
     requires { 0 < spare carriers.old }
     ensures entries { carriers.new.entries ≡ undone (Step.Removed place key row) carriers.old.entries }
     ensures spare { spare carriers.old ≤ spare carriers.new + 1 }
@@ -72,7 +69,7 @@ fn put_entry(carriers: &mut IndexMap<Key, Row>, place: usize, key: Key, row: Row
 }
 
 /// Takes a step back.
-fn take_back(carriers: &mut IndexMap<Key, Row>, step: Step)
+fn take_back(carriers: &mut KeyTable<Key, Row>, step: Step)
     requires { 0 < spare carriers.old }
     ensures entries { carriers.new.entries ≡ undone step carriers.old.entries }
     ensures spare { spare carriers.old ≤ spare carriers.new + 1 }
@@ -89,7 +86,7 @@ fn take_back(carriers: &mut IndexMap<Key, Row>, step: Step)
 /// Takes all steps back, the last first.
 #[cold]
 #[inline(never)]
-pub(crate) fn take_all_back(carriers: &mut IndexMap<Key, Row>, log: Vec<Step>)
+pub(crate) fn take_all_back(carriers: &mut KeyTable<Key, Row>, log: Vec<Step>)
     requires { length log.items ≤ spare carriers.old }
     ensures { carriers.new.entries ≡ all_undone log.items carriers.old.entries }
 {
@@ -117,7 +114,7 @@ fn is_expected(over: &Option<Row>, expected: Expected<'_>) -> bool
 
 /// Room for one more step, and for what takes it back.
 #[inline(always)]
-fn make_room(carriers: &mut IndexMap<Key, Row>, log: &mut Vec<Step>) -> Result<(), AllocError>
+fn make_room(carriers: &mut KeyTable<Key, Row>, log: &mut Vec<Step>) -> Result<(), AllocError>
     ensures entries { carriers.new.entries ≡ carriers.old.entries }
     ensures log { log.new.items ≡ log.old.items }
     ensures spare { spare carriers.old ≤ spare carriers.new }
@@ -148,7 +145,7 @@ fn note(log: &mut Vec<Step>, step: Step)
 
 /// Puts a row under a key. The result is whether an expected row was there, and there was memory.
 pub(crate) fn put(
-    carriers: &mut IndexMap<Key, Row>,
+    carriers: &mut KeyTable<Key, Row>,
     log: &mut Vec<Step>,
     key: Key,
     row: Row,
@@ -172,7 +169,7 @@ pub(crate) fn put(
 
 /// Takes away what is under a key. The result is whether an expected row was there, and there was memory.
 pub(crate) fn remove(
-    carriers: &mut IndexMap<Key, Row>,
+    carriers: &mut KeyTable<Key, Row>,
     log: &mut Vec<Step>,
     key: &Key,
     expected: Expected<'_>,

@@ -5,12 +5,11 @@
 //! image, by number of the key. A unique key with a null is no key (our own rule). `list_keys` gives the same as a list, and `share_key`
 //! the first key of one set that another has.
 //!
-//! What a contract sees: the list of an `IndexSet`'s keys in order, and the definitions of crate `rows` (`write_set`, `touches`).
+//! What a contract sees: the list of a `KeySet`'s keys in order, and the definitions of crate `rows` (`write_set`, `touches`).
 //!
 //! `footprint` and `install` are those of `rows` over such a set of keys: what a transaction needs to be prepared without the lock.
 //!
-//! Not proved: speed. Up to 8 keys are compared with one another, more are hashed with a fixed seed: a writer who chooses colliding keys
-//! makes the call quadratic in the keys of one transaction.
+//! Not proved: speed. Up to 8 keys are compared with one another, more are hashed; which keys hash alike is no matter (crate `key_table`).
 #![tactic(auto)]
 
 ghost use Rattle.std.specs.Prelude.{◌≡◌, ◌≢◌, IfOk, OnOk, AllPairs};
@@ -22,7 +21,7 @@ ghost use Rattle.write_set.specs.FirstTouch.{add_key, each_once};
 
 mod prepared;
 
-use indexmap::IndexSet;
+use key_table::KeySet;
 pub use prepared::{footprint, install};
 pub use rows::{Footprint, InstallOutcome, Patch, prepare};
 use rows::{Key, Schema, Transaction, keys_touched};
@@ -33,11 +32,7 @@ const FEW: usize = 8;
 
 /// All keys that a before image or an after image carries, each once, in the order of first touch: for each change the
 /// keys of the before image, then those of the after image, by number. A unique key with a null is no key (our own rule).
-pub fn keys_of(
-    alloc: Global,
-    schema: &Schema,
-    txn: &Transaction,
-) -> Result<IndexSet<Key>, AllocError>
+pub fn keys_of(alloc: Global, schema: &Schema, txn: &Transaction) -> Result<KeySet<Key>, AllocError>
     ensures order { IfOk result (λ set. set.keys ≡ each_once (write_set schema.now txn.now)) }
     ensures members { IfOk result (λ set. (key : KeyValue) → is_among set.keys key ≡ touches schema.now txn.now key) }
     ensures once { IfOk result (λ set. AllPairs (λ a b. a ≢ b) set.keys) }
@@ -55,19 +50,17 @@ pub fn list_keys(alloc: Global, schema: &Schema, txn: &Transaction) -> Result<Ve
     if touched.len() <= FEW {
         unique_by_comparison(alloc, touched)
     } else {
-        to_list(alloc, unique_by_hash(alloc, touched)?)
+        unique_by_hash(alloc, touched)?.into_keys()
     }
 }
 
 /// The members of a list, each once, in the order of their first places.
-fn unique_by_hash(alloc: Global, keys: Vec<Key>) -> Result<IndexSet<Key>, AllocError>
+fn unique_by_hash(alloc: Global, keys: Vec<Key>) -> Result<KeySet<Key>, AllocError>
     ensures { IfOk result (λ set. set.keys ≡ each_once keys.items) }
 {
-    let mut set = IndexSet::new(alloc);
+    let mut set = KeySet::new(alloc);
     for key in keys {
-        let Ok(_) = set.insert(key) else {
-            return Err(AllocError);
-        };
+        set.insert(key)?;
     }
     Ok(set)
 }
@@ -99,22 +92,12 @@ fn unique_by_comparison(alloc: Global, keys: Vec<Key>) -> Result<Vec<Key>, Alloc
     Ok(list)
 }
 
-/// The keys of a set, in its order.
-pub(crate) fn to_list(alloc: Global, set: IndexSet<Key>) -> Result<Vec<Key>, AllocError>
-    ensures { IfOk result (λ list. list.items ≡ set.keys) }
-{
-    let mut list = Vec::with_capacity(alloc, set.len())?;
-    for key in set {
-        list.push(key)?;
-    }
-    Ok(list)
-}
-
 /// The first key of `a` that is in `b`.
-pub fn share_key<'a>(a: &'a IndexSet<Key>, b: &IndexSet<Key>) -> Option<&'a Key>
+pub fn share_key<'a>(a: &'a KeySet<Key>, b: &KeySet<Key>) -> Option<&'a Key>
     ensures { option_copied result ≡ find (is_among b.now.keys) a.now.keys }
 {
-    for key in a.iter() {
+    for place in 0..a.len() {
+        let key = a.get_index(place)?;
         if b.contains(key) {
             return Some(key);
         }

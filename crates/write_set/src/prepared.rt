@@ -6,19 +6,18 @@ ghost use Rattle.rows.specs.Patch.{seen_of_keys};
 ghost use Rattle.rows.specs.Prepared.{IsStillTrue};
 ghost use Rattle.write_set.specs.Seeing.{SeesAllOf};
 
-use crate::to_list;
-use indexmap::IndexSet;
+use key_table::KeySet;
 use rows::{Footprint, InstallOutcome, Key, Patch, Rows};
 use std::alloc::{AllocError, Global};
 
 /// Each of these keys with the row that carries it, or none, and the tables. For the keys of a transaction it is all
 /// that `prepare` needs. The images are shared.
-pub fn footprint(alloc: Global, rows: &Rows, keys: IndexSet<Key>) -> Result<Footprint, AllocError>
+pub fn footprint(alloc: Global, rows: &Rows, keys: KeySet<Key>) -> Result<Footprint, AllocError>
     ensures schema { IfOk result (λ footprint. footprint.schema ≡ rows.now.schema) }
     ensures seen { IfOk result (λ footprint. footprint.seen ≡ seen_of_keys rows.now.rows keys.keys) }
     ensures all { IfOk result (λ footprint. SeesAllOf rows.now.schema keys.keys footprint.seen) }
 {
-    rows.footprint(alloc, to_list(alloc, keys)?)
+    rows.footprint(alloc, keys.into_keys()?)
 }
 
 /// Does what a patch's transaction does, unless a row or a table of its footprint is not as it was: then it is

@@ -15,8 +15,8 @@ returns-then-len-le-FEW-clause-once c =
 
 pub returns-in_ok-unique_by_hash-clause-members : goal.returns-in_ok-unique_by_hash-clause-members
 returns-in_ok-unique_by_hash-clause-members c =
-    if_ok c.to_list.result (λ list is. once_members list.items (write_set c.args.schema.now c.args.txn.now) (is ∙ c.in_ok-unique_by_hash.ensures ∙ ap each_once c.in_ok-touched.ensures)) c.to_list.ensures
+    if_ok c.into_keys.result (λ list is. once_members list.items (write_set c.args.schema.now c.args.txn.now) (is ∙ c.in_ok-unique_by_hash.ensures ∙ ap each_once c.in_ok-touched.ensures)) c.into_keys.ensures
 
 pub returns-in_ok-unique_by_hash-clause-once : goal.returns-in_ok-unique_by_hash-clause-once
 returns-in_ok-unique_by_hash-clause-once c =
-    if_ok c.to_list.result (λ list is. once_pairs list.items (write_set c.args.schema.now c.args.txn.now) (is ∙ c.in_ok-unique_by_hash.ensures ∙ ap each_once c.in_ok-touched.ensures)) c.to_list.ensures
+    if_ok c.into_keys.result (λ list is. once_pairs list.items (write_set c.args.schema.now c.args.txn.now) (is ∙ c.in_ok-unique_by_hash.ensures ∙ ap each_once c.in_ok-touched.ensures)) c.into_keys.ensures

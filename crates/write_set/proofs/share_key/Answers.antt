@@ -1,21 +1,25 @@
-use Rattle.std.proofs.Common.{◌≡◌, true, false, Some, cond, sym, ap, ◌∙◌}
-use Rattle.std.proofs.lemmas.Map.Iter.{rest_more}
+use Rattle.std.proofs.Common.{rules, ◌≡◌, ◌<◌, ◌+◌, ◌∷◌, true, false, Some, None, cond, length, drop, sym, ap, ◌∙◌, arith}
+use Rattle.std.proofs.lemmas.List.{at_drop_more}
+use Rattle.std.proofs.lemmas.Option.{get_or_from_slice_get, slice_get_within}
 use Rattle.std.specs.List.{find}
-use Rattle.std.specs.Map.Iter.{deref}
 use Rattle.rows.specs.WriteSet.{is_among}
 use Rattle.write_set.proofs.Firsts.{tested}
 use Rattle.write_set.proofs.share_key.Goals as goal
 
 pub returns-then-contains : goal.returns-then-contains
 returns-then-contains c =
-    let here = rest_more deref c.loop-key.key-iterator c.next.new.self c.next.result c.in-Some.key c.in-Some.is c.next.ensures.steps in
-    let among : is_among c.args.b.now.keys c.in-Some.key.now ≡ true = sym (tested c.in-Some.key.now c.args.b.now.keys) ∙ sym c.contains.ensures ∙ c.if-contains.true in
-    sym (ap (λ b. cond b (Some c.in-Some.key.now) (find (is_among c.args.b.now.keys) c.next.new.self)) among)
-    ∙ sym (ap (find (is_among c.args.b.now.keys)) here) ∙ c.loop-key.invariant
+    let ks = c.args.a.now.keys in
+    let key = c.in_ok-key.key.now in
+    let here = ap (λ k. find (is_among c.args.b.now.keys) (k ∷ drop (c.loop-place.place + 1) ks)) (get_or_from_slice_get ks c.loop-place.place key key (sym c.in_ok-key.ensures)) in
+    let among : is_among c.args.b.now.keys key ≡ true = sym (tested key c.args.b.now.keys) ∙ sym c.contains.ensures ∙ c.if-contains.true in
+    sym (ap (λ b. cond b (Some key) (find (is_among c.args.b.now.keys) (drop (c.loop-place.place + 1) ks))) among)
+    ∙ sym here ∙ sym (at_drop_more (find (is_among c.args.b.now.keys)) ks c.loop-place.place key (slice_get_within ks c.loop-place.place key (sym c.in_ok-key.ensures))) ∙ c.loop-place.invariant
 
-pub loop-key-preserved : goal.loop-key-preserved
-loop-key-preserved c =
-    let here = rest_more deref c.loop-key.key-iterator c.next.new.self c.next.result c.in-Some.key c.in-Some.is c.next.ensures.steps in
-    let among : is_among c.args.b.now.keys c.in-Some.key.now ≡ false = sym (tested c.in-Some.key.now c.args.b.now.keys) ∙ sym c.contains.ensures ∙ c.if-contains.false in
-    sym (ap (λ b. cond b (Some c.in-Some.key.now) (find (is_among c.args.b.now.keys) c.next.new.self)) among)
-    ∙ sym (ap (find (is_among c.args.b.now.keys)) here) ∙ c.loop-key.invariant
+pub loop-place-preserved : goal.loop-place-preserved
+loop-place-preserved c =
+    let ks = c.args.a.now.keys in
+    let key = c.in_ok-key.key.now in
+    let here = ap (λ k. find (is_among c.args.b.now.keys) (k ∷ drop (c.loop-place.place + 1) ks)) (get_or_from_slice_get ks c.loop-place.place key key (sym c.in_ok-key.ensures)) in
+    let among : is_among c.args.b.now.keys key ≡ false = sym (tested key c.args.b.now.keys) ∙ sym c.contains.ensures ∙ c.if-contains.false in
+    sym (ap (λ b. cond b (Some key) (find (is_among c.args.b.now.keys) (drop (c.loop-place.place + 1) ks))) among)
+    ∙ sym here ∙ sym (at_drop_more (find (is_among c.args.b.now.keys)) ks c.loop-place.place key (slice_get_within ks c.loop-place.place key (sym c.in_ok-key.ensures))) ∙ c.loop-place.invariant

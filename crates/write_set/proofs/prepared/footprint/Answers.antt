@@ -8,4 +8,4 @@ use Rattle.write_set.proofs.prepared.footprint.Goals as goal
 pub returns-clause-all : goal.returns-clause-all
 returns-clause-all c =
     sees_them c.args.rows.now.schema c.args.rows.now.rows c.args.keys.keys c.footprint.result
-    (subst (λ (keys : List Key). IfOk c.footprint.result (λ f. f.seen ≡ seen_of_keys c.args.rows.now.rows keys)) c.in_ok-to_list.ensures c.footprint.ensures.seen)
+    (subst (λ (keys : List Key). IfOk c.footprint.result (λ f. f.seen ≡ seen_of_keys c.args.rows.now.rows keys)) c.in_ok-into_keys.ensures c.footprint.ensures.seen)

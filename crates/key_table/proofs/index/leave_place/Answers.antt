@@ -1,0 +1,8 @@
+use Rattle.key_table.specs.Reached.{key_hash}
+use Rattle.key_table.proofs.Moves.{removed}
+use Rattle.key_table.proofs.index.leave_place.Goals as goal
+
+pub returns-clause-leaves : goal.returns-clause-leaves
+returns-clause-leaves g c =
+    removed g.K.PartialEq.eq g.met.K.Eq.laws g.K.Ord.cmp (λ k. key_hash (g.K.Hash.hash_input k)) c.args.entries.now c.args.key.now c.args.place c.args.slots.now c.move_place.new.slots c.fill_place.new.slots c.args.strays.now c.move_place.new.strays c.fill_place.new.strays
+    c.requires.hashes.0 c.requires.index c.move_place.ensures.keeps c.fill_place.ensures.fills

@@ -1,0 +1,8 @@
+-- A key that has a value.
+use Rattle.std.specs.Prelude.{◌≡◌, Bool, Some, cond}
+use Rattle.std.specs.Option.{unwrap_or}
+use Rattle.indexmap.specs.IndexMap.{IndexMap, get}
+
+-- The key has the value that it had, or else this, and each other key has what it had.
+abbrev pub IsOpened : {K V S : Type 0} → (K → K → Bool) → IndexMap K V S → IndexMap K V S → K → V → Type 0
+IsOpened {K} eq old new key value = (q : K) → get eq new q ≡ cond (eq key q) (Some (unwrap_or (get eq old key) value)) (get eq old q)
