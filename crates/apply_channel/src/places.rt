@@ -35,9 +35,8 @@ fn open_entry(
     ensures place { IfOk result (λ place. place ≡ place_of places.old.entries gtid) }
     ensures err { OnErr result (IsUnchanged places.old places.new) }
 {
-    let place = last_place(places, &gtid);
-    places.open(gtid, None)?;
-    Ok(place)
+    let at = places.open(gtid, None)?;
+    Ok(*places.value_at(at))
 }
 
 /// The last place of a GTID, which then has an entry, unless the caller wants none.

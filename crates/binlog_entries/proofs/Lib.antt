@@ -7,3 +7,6 @@ pub mod LimitLaws
 pub mod Pieces
 pub mod Whole
 pub mod JournalSteps
+pub mod PlaceLaws
+pub mod KnownLaws
+pub mod JoinLaws

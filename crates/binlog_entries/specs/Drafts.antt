@@ -16,7 +16,7 @@ standing d = record {
   is_open = d.is_open;
   database = option_map (λ v. v.items) d.database;
   mapping = d.mapping;
-  tables = d.tables.items;
+  tables = d.tables;
   row = d.row;
   operation = d.operation;
   part = d.part;
@@ -24,5 +24,5 @@ standing d = record {
   after = d.after.items;
   changes = d.changes.items;
   entries = d.entries.items;
-  varied = d.varied.items;
+  varied = d.varied;
 }

@@ -1,8 +1,10 @@
 pub mod Tables
+pub mod Places
 pub mod Bodies
 pub mod Unread
 pub mod Files
 pub mod Varied
+pub mod Known
 pub mod Keys
 pub mod Machine
 pub mod Drafts

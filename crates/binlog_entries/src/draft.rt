@@ -8,12 +8,13 @@ ghost use Rattle.binlog_entries.specs.Files.{has_come};
 
 use crate::bodies::{Body, kind_of, next_body};
 use crate::fault::{EntryFault, EntryRefusal};
+use crate::joined::{has_all, join};
 use crate::parts::{
     after_due, before_due, change_of, is_database, is_whole, may_be_database, parse_value, type_at,
 };
-use crate::tables::{Mapped, find_table, name_of};
+use crate::tables::{Mapped, Tables, name_of};
 use crate::unread::{refusal_at, refusal_of};
-use crate::varied::{Varied, has_varied};
+use crate::varied::{Varied, VariedColumns};
 use binlog_text::{
     Column, ColumnType, Event, Line, Mark, Operation, compares_bytes, parse_type, read_line,
 };
@@ -92,7 +93,7 @@ pub struct Draft {
     /// The table whose columns come.
     mapping: Option<Mapped>,
     /// Those that the statement has mapped before.
-    tables: Vec<Mapped>,
+    tables: Tables,
     /// The table of the row that is open.
     row: Option<Name>,
     operation: Operation,
@@ -104,7 +105,7 @@ pub struct Draft {
     /// Those of the transactions before it.
     entries: Vec<Entry>,
     /// Columns whose values the server compares otherwise than their bytes.
-    varied: Vec<Varied>,
+    varied: VariedColumns,
     ghost numbers: { HaveNumbers previous },
     ghost number: { is_number gtid.number ≡ true },
     ghost numbered: { are_numbered entries.items ≡ true },
@@ -125,10 +126,13 @@ impl File {
 }
 
 /// Whether a previous set of a later file lies within what came before it.
-fn has_come(file: File, come: &GtidSet, gtids: &GtidSet) -> bool
-    ensures { result ≡ has_come file come.now gtids.now }
+fn has_come(alloc: Global, file: File, come: &GtidSet, gtids: &GtidSet) -> Result<bool, AllocError>
+    ensures { IfOk result (λ has. has ≡ has_come file come.now gtids.now) }
 {
-    file != File::Later || gtids.is_subset(come)
+    if file != File::Later {
+        return Ok(true);
+    }
+    has_all(alloc, come, gtids)
 }
 
 impl Draft {
@@ -161,7 +165,7 @@ impl Draft {
             is_open: false,
             database: None,
             mapping: None,
-            tables: Vec::new(alloc),
+            tables: Tables::new(alloc),
             row: None,
             operation: Operation::Insert,
             part: Part::Head,
@@ -169,7 +173,7 @@ impl Draft {
             after: Vec::new(alloc),
             changes: Vec::new(alloc),
             entries: Vec::new(alloc),
-            varied: Vec::new(alloc),
+            varied: VariedColumns::new(alloc),
         }
     }
 
@@ -181,7 +185,7 @@ impl Draft {
         let Some(table) = self.row.take() else {
             return Ok(());
         };
-        let Some(mapped) = find_table(table.as_str().as_bytes(), &self.tables) else {
+        let Some(mapped) = self.tables.find(&table) else {
             return Err(EntryFault::Refused(EntryRefusal::Table));
         };
         if !is_whole(
@@ -350,7 +354,8 @@ impl Draft {
         let Some(gtids) = set_word(alloc, word)? else {
             return Err(EntryFault::Refused(EntryRefusal::Gtid));
         };
-        if !has_come(self.file, &self.come, &gtids) {
+        let has = has_come(alloc, self.file, &self.come, &gtids)?;
+        if !has {
             return Err(EntryFault::Refused(EntryRefusal::Gap));
         }
         self.join_come(alloc, &gtids)?;
@@ -368,8 +373,7 @@ impl Draft {
         if self.file == File::Later {
             return Ok(());
         }
-        self.come = self.come.union(alloc, gtids)?;
-        Ok(())
+        join(alloc, &mut self.come, gtids)
     }
 
     /// The set that was executed before, with a line of a previous set.
@@ -381,8 +385,7 @@ impl Draft {
         if !self.is_fresh {
             return Ok(());
         }
-        self.previous = self.previous.union(alloc, gtids)?;
-        Ok(())
+        join(alloc, &mut self.previous, gtids)
     }
 
     #[tactic(auto, unfolding(crate::specs::Machine::head_line))]
@@ -416,10 +419,13 @@ impl Draft {
     fn known_name(&self, alloc: Global, table: &[u8]) -> Result<Option<Name>, AllocError>
         ensures { IfOk result (λ found. found ≡ known_name table.now (standing self.now).tables) }
     {
-        if find_table(table, &self.tables).is_none() {
+        let Some(name) = name_of(alloc, table)? else {
+            return Ok(None);
+        };
+        if self.tables.find(&name).is_none() {
             return Ok(None);
         }
-        name_of(alloc, table)
+        Ok(Some(name))
     }
 
     fn begin_row(
@@ -473,7 +479,7 @@ impl Draft {
         self.database = Some(copy);
         self.mapping = Some(Mapped::new(alloc, name));
         if self.is_over {
-            self.tables = Vec::new(alloc);
+            self.tables = Tables::new(alloc);
         }
         self.is_over = false;
         Ok(())
@@ -518,13 +524,8 @@ impl Draft {
         if compares_bytes(text) {
             return Ok(());
         }
-        let column = table.len();
-        if has_varied(table.name().as_str().as_bytes(), column, &self.varied) {
-            return Ok(());
-        }
-        let table = table.name().clone()?;
-        self.varied.push(Varied { table, column })?;
-        Ok(())
+        let name = table.name().clone()?;
+        self.varied.add(name, table.len())
     }
 
     #[tactic(auto, unfolding(crate::specs::Machine::column_line))]
@@ -623,7 +624,7 @@ impl Draft {
         Log {
             previous: self.previous,
             entries: self.entries,
-            varied: self.varied,
+            varied: self.varied.into_list(),
         }
     }
 }

@@ -1,12 +1,13 @@
 //! The text of a log as that of a journal.
-ghost use Rattle.std.specs.Prelude.{IfOk, IfErr, IfSome, IfNone};
+ghost use Rattle.std.specs.Prelude.{◌≡◌, IfOk, IfErr, OnOk, IfSome, IfNone};
+ghost use Rattle.binlog_entries.specs.Keys.{varied_places};
 ghost use Rattle.binlog_entries.specs.Imports.{Imports, IsNoImport, AreKeysTaken, IsKeyFault};
 
 use crate::as_journal::LogFault;
 use crate::fault::ReadFault;
 use crate::keys::{varied_key, varied_places};
 use crate::reader::read_log;
-use crate::varied::Varied;
+use crate::varied::{Varied, VariedColumns};
 use gtid_set::{GtidSet, SetFault};
 use rows::{Name, Schema, Table};
 use std::alloc::Global;
@@ -44,19 +45,42 @@ pub struct ImportedJournal {
 }
 
 /// The first table with a key that is not compared by its bytes, by its name, and the key's column, unless such keys are taken.
-fn key_fault(bytes: bool, tables: &[Table], varied: &[Varied]) -> Option<ImportFault>
+fn key_fault(bytes: bool, tables: &[Table], varied: &VariedColumns) -> Option<ImportFault>
     ensures none { IfNone result (AreKeysTaken tables.now bytes varied.now) }
     ensures some { IfSome result (IsKeyFault tables.now bytes varied.now) }
 {
     if bytes {
         return None;
     }
-    let Some((table, column)) = varied_key(tables, varied) else {
+    let Ok(found) = varied_key(tables, varied) else {
+        return Some(ImportFault::Text(ReadFault::Set(SetFault::Memory)));
+    };
+    let Some((table, column)) = found else {
         return None;
     };
-    match table.clone() {
-        Ok(table) => Some(ImportFault::Key(table, column)),
-        Err(_) => Some(ImportFault::Text(ReadFault::Set(SetFault::Memory))),
+    Some(ImportFault::Key(table, column))
+}
+
+/// The places of the tables with a key that is not compared by its bytes; or why there is no journal.
+fn places_of(
+    alloc: Global,
+    bytes: bool,
+    tables: &[Table],
+    varied: &[Varied],
+) -> Result<Vec<usize>, ImportFault>
+    ensures taken { OnOk result (AreKeysTaken tables.now bytes varied.now) }
+    ensures places { IfOk result (λ places. places.items ≡ varied_places 0 tables.now varied.now) }
+    ensures fault { IfErr result (IsKeyFault tables.now bytes varied.now) }
+{
+    let Ok(varied) = VariedColumns::of(alloc, varied) else {
+        return Err(ImportFault::Text(ReadFault::Set(SetFault::Memory)));
+    };
+    if let Some(fault) = key_fault(bytes, tables, &varied) {
+        return Err(fault);
+    }
+    match varied_places(alloc, tables, &varied) {
+        Ok(places) => Ok(places),
+        Err(_) => Err(ImportFault::Text(ReadFault::Set(SetFault::Memory))),
     }
 }
 
@@ -78,12 +102,9 @@ pub fn import_journal(
         Ok(log) => log,
         Err(fault) => return Err(ImportFault::Text(fault)),
     };
-    if let Some(fault) = key_fault(bytes, schema.tables(), &log.varied) {
-        return Err(fault);
-    }
-    let varied = match varied_places(alloc, schema.tables(), &log.varied) {
+    let varied = match places_of(alloc, bytes, schema.tables(), &log.varied) {
         Ok(varied) => varied,
-        Err(_) => return Err(ImportFault::Text(ReadFault::Set(SetFault::Memory))),
+        Err(fault) => return Err(fault),
     };
     let journal = match log.journal(alloc) {
         Ok(journal) => journal,

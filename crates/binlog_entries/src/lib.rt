@@ -29,6 +29,7 @@ mod bodies;
 mod draft;
 mod fault;
 mod import;
+mod joined;
 mod keys;
 mod laws;
 mod limits;

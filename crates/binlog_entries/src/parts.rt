@@ -5,7 +5,7 @@ ghost use Rattle.binlog_entries.specs.Tables.{type_at};
 
 use crate::draft::Part;
 use crate::fault::{EntryFault, EntryRefusal};
-use crate::tables::{Mapped, find_table};
+use crate::tables::Tables;
 use binlog_text::{ColumnType, Operation, read_value};
 use rows::{Change, Name, Row, Value};
 use std::alloc::{AllocError, Global};
@@ -94,13 +94,13 @@ pub fn after_due(operation: Operation, part: Part) -> bool
 }
 
 /// The type of a column, counted from 0, of the table of a row.
-pub fn type_at(row: &Option<Name>, tables: &[Mapped], place: usize) -> Option<ColumnType>
+pub fn type_at(row: &Option<Name>, tables: &Tables, place: usize) -> Option<ColumnType>
     ensures { result ≡ type_at row.now tables.now place }
 {
     let Some(row) = row else {
         return None;
     };
-    match find_table(row.as_str().as_bytes(), tables) {
+    match tables.find(row) {
         Some(table) => table.column(place),
         None => None,
     }

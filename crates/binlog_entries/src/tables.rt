@@ -1,12 +1,13 @@
 //! Tables that a statement maps.
-ghost use Rattle.std.specs.Prelude.{◌≡◌, ◌∷◌, ◌++◌, [], IfOk, OnOk, option_map, slice_get, length};
+ghost use Rattle.std.specs.Prelude.{◌≡◌, ◌∷◌, ◌++◌, [], IfOk, OnOk, OnErr, option_map, slice_get, length};
 ghost use Rattle.txn_journal.specs.Words.{name_of};
-ghost use Rattle.std.specs.Str.{bytes_eq};
 ghost use Rattle.binlog_entries.specs.Tables.{find_table};
+ghost use Rattle.binlog_entries.specs.Places.{ArePlaces};
 
 use binlog_text::ColumnType;
 use rows::{Name, NameFault};
 use std::alloc::{AllocError, Global};
+use std::collections::BTreeMap;
 use std::marker::Model;
 
 /// A table by its name, with the types of its columns in order.
@@ -66,24 +67,84 @@ impl Mapped {
             None => None,
         }
     }
+}
 
-    fn is_named(&self, name: &[u8]) -> bool
-        ensures { result ≡ bytes_eq self.now.name name.now }
-    {
-        self.name.as_str().as_bytes() == name
+/// The tables that a statement has mapped, in order. A table is found in as many steps as their number has binary digits.
+pub struct Tables {
+    list: Vec<Mapped>,
+    /// The place of the first table of each name.
+    places: BTreeMap<Name, usize>,
+}
+
+impl Drop for Tables {
+    // (by hand: for a caller the end of Tables is one call)
+    fn drop(self) {
+        let Tables {
+            list: _list,
+            places: _places,
+        } = self;
     }
 }
 
-/// The first table of this name.
-pub fn find_table<'a>(name: &[u8], tables: &'a [Mapped]) -> Option<&'a Mapped>
-    ensures { option_map (λ t. t.now) result ≡ find_table name.now tables.now }
+impl Model for Tables {
+    ghost use Rattle.std.specs.Prelude.{List};
+    ghost use Rattle.binlog_entries.specs.Tables.{Table};
+    ghost use Rattle.binlog_entries.specs.Places.{ArePlaces};
+
+    ghost Value = { List Table };
+
+    ghost view = { λ t. t.list.items };
+
+    ghost invariant = { λ t. ArePlaces t.list.items t.places };
+}
+
+/// Puts a table after the others, where there is room for it. An error leaves all as it was.
+fn put(
+    list: &mut Vec<Mapped>,
+    places: &mut BTreeMap<Name, usize>,
+    table: Mapped,
+) -> Result<(), AllocError>
+    requires { ArePlaces list.old.items places.old }
+    ensures put { OnOk result (list.new.items ≡ list.old.items ++ table ∷ []) }
+    ensures err { OnErr result (list.new.items ≡ list.old.items) }
+    ensures places { ArePlaces list.new.items places.new }
 {
-    for table in tables {
-        if table.is_named(name) {
-            return Some(table);
+    list.reserve(1)?;
+    if places.get(&table.name).is_none() {
+        let name = table.name.clone()?;
+        places.insert(name, list.as_slice().len())?;
+    }
+    list.push_reserved(table);
+    Ok(())
+}
+
+impl Tables {
+    /// No table.
+    pub fn new(alloc: Global) -> Tables
+        ensures { result ≡ [] }
+    {
+        Tables {
+            list: Vec::new(alloc),
+            places: BTreeMap::new(alloc),
         }
     }
-    None
+
+    /// Adds a table after the others.
+    pub fn push(&mut self, table: Mapped) -> Result<(), AllocError>
+        ensures { OnOk result (self.new ≡ self.old ++ table ∷ []) }
+    {
+        put(&mut self.list, &mut self.places, table)
+    }
+
+    /// The first table of this name.
+    pub fn find(&self, name: &Name) -> Option<&Mapped>
+        ensures { option_map (λ t. t.now) result ≡ find_table name.now self.now }
+    {
+        match self.places.get(name) {
+            Some(place) => self.list.get(*place),
+            None => None,
+        }
+    }
 }
 
 /// The name that a word is.

@@ -53,13 +53,12 @@ fn visit_entry(
     ensures chains { OnOk result (IsVisitedAt reader gtid.now key.now chains.old.entries chains.new.entries) }
     ensures found { IfOk result (λ next. next ≡ expected reader gtid.now (chains_of chains.old.entries key.now)) }
 {
-    let Some(mut chain) = chains.replace(key, Chain::new(alloc)) else {
+    let Some(place) = chains.get_index_of(key) else {
         return open_chain(alloc, chains, key, reader, gtid);
     };
+    let mut chain = chains.replace_at(place, Chain::new(alloc));
     let next = chain.visit(reader, gtid)?;
-    let Some(_emptied) = chains.replace(key, chain) else {
-        unreachable!()
-    };
+    let _emptied = chains.replace_at(place, chain);
     Ok(next)
 }
 

@@ -48,7 +48,8 @@ fn open_entry(table: &mut KeyTable<Key, Option<Ends>>, key: Key) -> Result<(), A
     ensures ok { OnOk result (IsOpened key table.old.entries table.new.entries) }
     ensures err { OnErr result (IsUnchanged table.old table.new) }
 {
-    table.open(key, None)
+    table.open(key, None)?;
+    Ok(())
 }
 
 impl Chains {
@@ -134,8 +135,12 @@ impl Chains {
         ensures ends { (k : KeyValue) → ends_at self.new k ≡ with_chain (ends_at self.old) key.now (Some (extend_ends at (ends_at self.old key.now))) k }
         ensures stays { (k : KeyValue) → HasEntry self.old k → HasEntry self.new k }
     {
-        let before = self.ends(key);
-        self.put_ends(key, extend_ends(at, before));
+        let Some(place) = self.table.get_index_of(key) else {
+            return None;
+        };
+        let before = *self.table.value_at(place);
+        let ends = extend_ends(at, before);
+        self.table.replace_at(place, Some(ends));
         before
     }
 

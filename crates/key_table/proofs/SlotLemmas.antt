@@ -1,10 +1,11 @@
 -- What slots note once one of them is written.
-use Rattle.std.proofs.Common.{◌≡◌, ◌<◌, ◌≤◌, ◌+◌, ℕ, zero, suc, ◌⊎◌, inl, inr, Bool, true, false, not, ◌&&◌, ◌||◌, List, length, set, ◌-◌, get_or, ltb, refl, sym, ap, ◌∙◌, subst, arith}
+use Rattle.std.proofs.Common.{◌≡◌, ◌<◌, ◌≤◌, ◌+◌, ℕ, zero, suc, ◌⊎◌, inl, inr, Bool, true, false, not, ◌&&◌, ◌||◌, ◌==◌, List, length, set, ◌-◌, get_or, ltb, refl, sym, ap, ◌∙◌, subst, arith}
 use Rattle.std.proofs.lemmas.Bool.{cases_eq, cases_lt, cases_Bool, ltb-true, or_left, or_right, or_from, and_parts, and_from, and_left, and_right, eqb-true, eq-eqb, ne_eqb}
 use Rattle.std.proofs.lemmas.Option.{slice_get_past}
 use Rattle.std.specs.Option.{option_map_or}
 use Rattle.std.proofs.lemmas.List.{get_or-set_same, get_or-set_other, get_or_past, get_or_default}
-use Rattle.key_table.specs.Slots.{Keeps, is_full, is_noted, is_taken, is_under, notes, past, slot_at}
+use Rattle.key_table.specs.Slots.{Keeps, is_free, is_full, is_noted, is_taken, is_under, notes, past, slot_at}
+use Rattle.key_table.specs.declared.slots.Looked.TheVariants.{Free}
 use Rattle.key_table.specs.declared.slots.Slot.{Slot}
 
 pub false_here : {X : Type 0} (b : Bool) → b ≡ true → b ≡ false → X
@@ -169,3 +170,59 @@ taken_here slots at (suc n) hash place e other = taken_noted (notes hash place (
 
 pub under_past : {K V : Type 0} (eq : K → K → Bool) (entries : List (K × V)) (key : K) (place : ℕ) → length entries ≤ place → is_under eq entries key place ≡ false
 under_past eq entries key place beyond = ap (λ o. option_map_or (λ entry. eq key entry.0) o false) (slice_get_past entries place beyond)
+
+-- A slot that is free for a look.
+pub free_same : (a b : ℕ) → Free a ≡ Free b → a ≡ b
+free_same a b e = cc
+
+either : (a b : Bool) → a || b ≡ true → (a ≡ true) ⊎ (b ≡ true)
+either true b e = inl refl
+either false b e = inr e
+
+not_true : (b : Bool) → not b ≡ true → b ≡ false
+not_true true e = cc
+not_true false e = refl
+
+pub free_on : (slots : List Slot) (at left slot : ℕ) → 0 < left → is_taken (slot_at slots at) ≡ true → is_free slots at left slot ≡ is_free slots (at + 1) (left - 1) slot
+free_on slots at zero slot some taken = absurd (omega (some, arith))
+free_on slots at (suc n) slot some taken =
+    subst (λ m. is_free slots at (suc n) slot ≡ is_free slots (at + 1) m slot) (omega arith)
+    (skipped (at == slot && not (is_taken (slot_at slots at))) (is_taken (slot_at slots at)) (is_free slots (at + 1) n slot) (and_right _ _ (ap not taken)) taken)
+
+pub free_here : (slots : List Slot) (at left : ℕ) → 0 < left → is_taken (slot_at slots at) ≡ false → is_free slots at left at ≡ true
+free_here slots at zero some vacant = absurd (omega (some, arith))
+free_here slots at (suc n) some vacant = or_left _ _ (and_from _ _ (eq-eqb at at refl) (ap not vacant))
+
+-- An empty slot that is looked at, and what is noted once it is written.
+module _ (slots : List Slot) (p : ℕ) where
+  pub free_vacant : (at n : ℕ) → is_free slots at n p ≡ true → is_taken (slot_at slots p) ≡ false
+  free_vacant at zero e = cc
+  free_vacant at (suc n) e = by (free_vacant (at + 1) n) (either _ _ e) where
+    by : (is_free slots (at + 1) n p ≡ true → is_taken (slot_at slots p) ≡ false) → (at == p && not (is_taken (slot_at slots at)) ≡ true) ⊎ (is_taken (slot_at slots at) && is_free slots (at + 1) n p ≡ true) → is_taken (slot_at slots p) ≡ false
+    by rest (inl here) = ap (λ q. is_taken (slot_at slots q)) (sym (eqb-true _ _ (and_parts _ _ here).0)) ∙ not_true _ (and_parts _ _ here).1
+    by rest (inr on) = rest (and_parts _ _ on).1
+
+  pub free_full : (at n : ℕ) → is_free slots at n p ≡ true → is_full slots at n ≡ false
+  free_full at zero e = cc
+  free_full at (suc n) e = by (free_full (at + 1) n) (either _ _ e) where
+    by : (is_free slots (at + 1) n p ≡ true → is_full slots (at + 1) n ≡ false) → (at == p && not (is_taken (slot_at slots at)) ≡ true) ⊎ (is_taken (slot_at slots at) && is_free slots (at + 1) n p ≡ true) → is_full slots at (suc n) ≡ false
+    by rest (inl here) = and_left _ _ (not_true _ (and_parts _ _ here).1)
+    by rest (inr on) = and_right _ _ (rest (and_parts _ _ on).1)
+
+  pub free_within : (at n : ℕ) → is_free slots at n p ≡ true → p < length slots
+  free_within at n e = by (cases_lt p (length slots)) where
+    by : (p < length slots) ⊎ (length slots ≤ p) → p < length slots
+    by (inl within) = within
+    by (inr beyond) = false_here (is_taken past) refl (ap is_taken (sym (get_or_past slots p past beyond)) ∙ free_vacant at n e)
+
+  pub free_noted : (v : Slot) (hash place at n : ℕ) → p < length slots → is_taken v ≡ true → notes hash place v ≡ true → is_free slots at n p ≡ true → is_noted (set slots p v) at n hash place ≡ true
+  free_noted v hash place at zero within taken noted e = cc
+  free_noted v hash place at (suc n) within taken noted e = by (cases_eq at p) (either _ _ e) (free_noted v hash place (at + 1) n within taken noted) where
+    by : (at ≡ p) ⊎ (at ≡ p → ⊥) → (at == p && not (is_taken (slot_at slots at)) ≡ true) ⊎ (is_taken (slot_at slots at) && is_free slots (at + 1) n p ≡ true) → (is_free slots (at + 1) n p ≡ true → is_noted (set slots p v) (at + 1) n hash place ≡ true)
+        → is_noted (set slots p v) at (suc n) hash place ≡ true
+    by (inl same) w rest = or_left _ _ (ap (λ q. notes hash place (slot_at (set slots p v) q)) same ∙ ap (notes hash place) (get_or-set_same slots p v past within) ∙ noted)
+    by (inr other) (inl here) rest = absurd (other (eqb-true _ _ (and_parts _ _ here).0))
+    by (inr other) (inr on) rest = or_right _ _ (and_from _ _ (ap is_taken (get_or-set_other slots p at v past other) ∙ (and_parts _ _ on).0) (rest (and_parts _ _ on).1))
+
+pub vacant_notes : (hash place : ℕ) (slot : Slot) → is_taken slot ≡ false → place < 4294967295 → notes hash place slot ≡ false
+vacant_notes hash place slot vacant small = notes_other hash place slot (λ _ same. false_here _ (taken_by slot (λ e. omega (e, same, small, arith))) vacant)

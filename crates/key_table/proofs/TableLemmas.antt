@@ -1,11 +1,11 @@
 -- Places of keys.
-use Rattle.std.proofs.Common.{◌≡◌, ◌<◌, ◌≤◌, ℕ, Bool, true, false, ◌⊎◌, inl, inr, List, [], length, get_or, Some, None, Option, slice_get, position, refl, sym, ap, subst, ◌∙◌, arith, ltb}
+use Rattle.std.proofs.Common.{rules, Result, Ok, Err, OnErr, ◌≡◌, ◌<◌, ◌≤◌, ℕ, Bool, true, false, ◌⊎◌, inl, inr, List, [], length, get_or, Some, None, Option, slice_get, position, refl, sym, ap, subst, ◌∙◌, arith, ltb}
 use Rattle.std.proofs.lemmas.Bool.{ltb-true}
 use Rattle.std.proofs.lemmas.List.{get_or-map}
 use Rattle.std.proofs.lemmas.Option.{slice_get_cases, slice_get-get_or, slice_get_within}
 use Rattle.std.specs.Cmp.{IsEquivalence}
 use Rattle.std.specs.List.{IsDistinct}
-use Rattle.std.specs.Map.{keys_of, lookup}
+use Rattle.std.specs.Map.{keys_of, lookup, values_of}
 use Rattle.std.specs.Option.{IfSome, option_map_or, option_map}
 use Rattle.std_collections.proofs.HashLookup.{IsAbsent-from_indices, IsFirst-from_index, IsHashed-nil, get_value}
 use Rattle.indexmap.proofs.MapLemmas.{Found-position, Missing-position, index-absent, index-first}
@@ -58,3 +58,19 @@ empty_unique eq es e = (IsHashed-nil eq (λ _. 0) [] es refl e).0
 
 pub value_at : {K V : Type 0} (test : K → Bool) (es xs : List (K × V)) (i : ℕ) (e d : K × V) → xs ≡ es → position test (keys_of es) ≡ Some i → true ≡ ltb i (length xs) → e ≡ get_or xs i d → Some e.1 ≡ lookup test es
 value_at test es xs i e d same index within here = sym (value_found test es i e index (subst (λ l. slice_get l i ≡ Some e) same (get_is xs i e d within here)))
+
+-- A key that no entry has has no value, and one that an entry has has one.
+pub none_lookup : {K V : Type 0} (eq : K → K → Bool) (laws : IsEquivalence eq) (es xs : List (K × V)) (key : K) → xs ≡ es → ((i : ℕ) → is_under eq xs key i ≡ false) → position (eq key) (keys_of es) ≡ None
+none_lookup eq laws es xs key same none = index_missing eq laws es key (λ i. sym (ap (λ l. is_under eq l key i) same) ∙ none i)
+
+pub some_place : {K V : Type 0} (eq : K → K → Bool) (laws : IsEquivalence eq) (es xs : List (K × V)) (key : K) (i : ℕ) → xs ≡ es → IsDistinct eq (keys_of es) → is_under eq xs key i ≡ true → position (eq key) (keys_of es) ≡ Some i
+some_place eq laws es xs key i same distinct under = index_found eq laws es key i distinct (sym (ap (λ l. is_under eq l key i) same) ∙ under)
+
+pub value_of_place : {K V : Type 0} (test : K → Bool) (es : List (K × V)) (r : Option ℕ) → r ≡ position test (keys_of es) → IfSome r (λ place. slice_get (values_of es) place ≡ lookup test es)
+value_of_place test es None index = search rules
+value_of_place test es (Some i) index = sym (Found-position test es i (sym index)).value
+
+-- A fact where a result is an error.
+pub on_err : {T E : Type 0} (r : Result T E) (P : Type 0) → P → OnErr r P
+on_err (Ok x) P p = search rules
+on_err (Err x) P p = p

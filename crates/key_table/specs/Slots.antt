@@ -38,6 +38,11 @@ abbrev pub is_full : List Slot → ℕ → ℕ → Bool
 is_full slots at zero = true
 is_full slots at (suc n) = is_taken (slot_at slots at) && is_full slots (at + 1) n
 
+-- whether a slot is empty, and one of so many from here on of which none before it is
+abbrev pub is_free : List Slot → ℕ → ℕ → ℕ → Bool
+is_free slots at zero slot = false
+is_free slots at (suc n) slot = (at == slot && not (is_taken (slot_at slots at))) || (is_taken (slot_at slots at) && is_free slots (at + 1) n slot)
+
 -- Other slots note what these note at such places, and are full where these are.
 pub record Keeps (P : ℕ → Type 0) (slots others : List Slot) : Type 0 where
   pub noted : (at n hash place : ℕ) → P place → is_noted slots at n hash place ≡ true → is_noted others at n hash place ≡ true

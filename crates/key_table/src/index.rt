@@ -4,9 +4,11 @@ ghost use Rattle.std.specs.Map.{keys_of};
 ghost use Rattle.indexmap.specs.Layout.{IsHashed};
 ghost use Rattle.key_table.specs.Reached.{AreReached, Fills, IsReached, KeepsReached, Leaves, key_hash};
 ghost use Rattle.key_table.specs.Slots.{is_under};
+ghost use Rattle.key_table.specs.declared.index.Noting.{Noting};
+ghost use Rattle.key_table.specs.declared.index.Noting.TheVariants.{At, Noted, Nowhere};
 
 use crate::key::TableKey;
-use crate::slots::{Looked, Slot, look, move_note, note};
+use crate::slots::{Looked, Slot, fill, look, move_note, note};
 use crate::strays::Strays;
 use std::hash::{FoldHasher, Hash, Hasher};
 
@@ -39,12 +41,56 @@ pub(crate) fn find<K: TableKey, V>(
 {
     match look(slots, entries, hash, key) {
         Looked::At(place) => Some(place),
-        Looked::Nowhere => None,
+        Looked::Free(_slot) => None,
         Looked::Beyond => strays.find(entries, key),
     }
 }
 
+/// Where a key is, and what was done where it is nowhere.
+#[derive(Clone, Copy, Drop)]
+pub(crate) enum Noting {
+    /// It is at this place.
+    At(usize),
+    /// It was nowhere. An empty slot notes the place past all entries for it now.
+    Noted,
+    /// It is nowhere, and no slot that a look for it comes to is empty.
+    Nowhere,
+}
+
+/// Looks for a key among entries. Where that ends at an empty slot, the slot notes a place for it past all entries.
+pub(crate) fn find_or_note<K: TableKey, V>(
+    slots: &mut [Slot],
+    strays: &Strays<K>,
+    entries: &[(K, V)],
+    hash: u32,
+    key: &K,
+) -> Noting
+    requires len { length entries.now < 4294967295 }
+    requires hash { hash ≡ key_hash (K.hash_input key.now) }
+    requires reached { AreReached K.cmp (λ k. key_hash (K.hash_input k)) entries.now slots.old strays.now }
+    ensures len { length slots.new ≡ length slots.old }
+    ensures at { (place : ℕ) → result ≡ At place → is_under K.eq entries.now key.now place ≡ true }
+    ensures noted { result ≡ Noted → (place : ℕ) → is_under K.eq entries.now key.now place ≡ false }
+    ensures nowhere { result ≡ Nowhere → (place : ℕ) → is_under K.eq entries.now key.now place ≡ false }
+    ensures reached { result ≡ Noted → IsReached K.cmp slots.new strays.now key.now hash (length entries.now) }
+    ensures keeps { KeepsReached K.cmp K.eq (λ i. i < length entries.now) key.now slots.old strays.now slots.new strays.now }
+    ensures same { AreReached K.cmp (λ k. key_hash (K.hash_input k)) entries.now slots.new strays.now }
+{
+    match look(slots, entries, hash, key) {
+        Looked::At(place) => Noting::At(place),
+        Looked::Free(slot) => {
+            fill(slots, slot, hash, entries.len());
+            Noting::Noted
+        }
+        Looked::Beyond => match strays.find(entries, key) {
+            Some(place) => Noting::At(place),
+            None => Noting::Nowhere,
+        },
+    }
+}
+
 /// A key has a place past the places of all others. The result is whether an empty slot notes it now.
+#[inline(always)]
 pub(crate) fn index<K: TableKey>(
     slots: &mut [Slot],
     strays: &mut Strays<K>,
@@ -142,7 +188,8 @@ pub(crate) fn leave_place<K: TableKey, V>(
     ensures len { length slots.new ≡ length slots.old }
     ensures leaves { Leaves K.cmp (λ k. key_hash (K.hash_input k)) entries.now place slots.old strays.old slots.new strays.new }
 {
-    move_place(slots, strays, hash, key, place, GONE);
+    move_note(slots, hash, place, GONE);
+    strays.remove(key);
     fill_place(slots, strays, entries, hashes, place);
 }
 

@@ -16,6 +16,7 @@
 
 mod index;
 mod key;
+mod lists;
 mod set;
 mod slots;
 mod strays;

@@ -1,7 +1,7 @@
 //! A set of keys.
-ghost use Rattle.std.specs.Prelude.{◌≡◌, [], OnOk, OnErr, IfOk, length, slice_get};
+ghost use Rattle.std.specs.Prelude.{◌≡◌, ◌<◌, ◌≤◌, ◌+◌, [], false, IsOk, OnOk, OnErr, IfOk, length, slice_get};
 ghost use Rattle.std.specs.Option.{option_copied};
-ghost use Rattle.indexmap.specs.IndexSet.{IsUnchanged, contains, index_set_len, insert_key};
+ghost use Rattle.indexmap.specs.IndexSet.{IsUnchanged, contains, index_set_len, insert_key, spare};
 
 use crate::key::TableKey;
 use crate::table::KeyTable;
@@ -63,10 +63,11 @@ impl<K: TableKey> KeySet<K> {
     pub fn insert(&mut self, key: K) -> Result<(), AllocError>
         ensures ok { OnOk result (self.new.keys ≡ insert_key K.eq self.old.keys key) }
         ensures err { OnErr result (IsUnchanged self.old self.new) }
+        ensures absent { OnErr result (contains K.eq self.old key ≡ false) }
+        ensures succeeds { 0 < spare self.old → IsOk result }
+        ensures spare { spare self.old ≤ spare self.new + 1 }
     {
-        let Ok(_) = self.table.insert(key, ()) else {
-            return Err(AllocError);
-        };
+        self.table.open(key, ())?;
         Ok(())
     }
 

@@ -1,8 +1,8 @@
 //! Slots, which note places of entries by the hashes of their keys. A slot that is free once is never empty again.
 ghost use Rattle.std.specs.Prelude.{◌≡◌, ◌<◌, ◌≤◌, ◌⊎◌, ℕ, true, false, length, Some, None};
-ghost use Rattle.key_table.specs.Slots.{Keeps, home, is_full, is_noted, is_under, steps};
+ghost use Rattle.key_table.specs.Slots.{Keeps, home, is_free, is_full, is_noted, is_under, steps};
 ghost use Rattle.key_table.specs.declared.slots.Looked.{Looked};
-ghost use Rattle.key_table.specs.declared.slots.Looked.TheVariants.{At, Nowhere, Beyond};
+ghost use Rattle.key_table.specs.declared.slots.Looked.TheVariants.{At, Free, Beyond};
 
 use std::alloc::{AllocError, Global};
 
@@ -24,8 +24,8 @@ const STEPS: usize = 16;
 pub(crate) enum Looked {
     /// It is at this place.
     At(usize),
-    /// It is nowhere.
-    Nowhere,
+    /// It is nowhere. This slot is empty, and a note of the key can stand there.
+    Free(usize),
     /// It is at no place that a slot notes. None of the slots is empty.
     Beyond,
 }
@@ -62,8 +62,8 @@ pub(crate) fn is_under<K: Eq, V>(entries: &[(K, V)], place: usize, key: &K) -> b
 pub(crate) fn look<K: Eq, V>(slots: &[Slot], entries: &[(K, V)], hash: u32, key: &K) -> Looked
     requires { length entries.now < 4294967295 }
     ensures at { (place : ℕ) → result ≡ At place → is_under K.eq entries.now key.now place ≡ true }
-    ensures vacant { result ≡ Nowhere → is_full slots.now (home (length slots.now) hash) steps ≡ false }
-    ensures nowhere { (place : ℕ) → is_under K.eq entries.now key.now place ≡ true → result ≡ Nowhere → is_noted slots.now (home (length slots.now) hash) steps hash place ≡ false }
+    ensures free { (slot : ℕ) → result ≡ Free slot → is_free slots.now (home (length slots.now) hash) steps slot ≡ true }
+    ensures nowhere { (place slot : ℕ) → is_under K.eq entries.now key.now place ≡ true → result ≡ Free slot → is_noted slots.now (home (length slots.now) hash) steps hash place ≡ false }
     ensures beyond { (place : ℕ) → is_under K.eq entries.now key.now place ≡ true → result ≡ Beyond → is_noted slots.now (home (length slots.now) hash) steps hash place ≡ false }
 {
     let mut at = home(slots.len(), hash);
@@ -73,7 +73,7 @@ pub(crate) fn look<K: Eq, V>(slots: &[Slot], entries: &[(K, V)], hash: u32, key:
             return Looked::Beyond;
         };
         if slot.place == NO_PLACE {
-            return Looked::Nowhere;
+            return Looked::Free(at);
         }
         if slot.hash == hash && is_under(entries, slot.place as usize, key) {
             return Looked::At(slot.place as usize);
@@ -82,6 +82,20 @@ pub(crate) fn look<K: Eq, V>(slots: &[Slot], entries: &[(K, V)], hash: u32, key:
         left -= 1;
     }
     Looked::Beyond
+}
+
+/// Notes a place for a hash in a slot that is empty, and that a look for the hash comes to.
+pub(crate) fn fill(slots: &mut [Slot], at: usize, hash: u32, place: usize)
+    requires place { place < 4294967295 }
+    requires free { is_free slots.old (home (length slots.old) hash) steps at ≡ true }
+    ensures len { length slots.new ≡ length slots.old }
+    ensures keeps { Keeps (λ i. i < 4294967295) slots.old slots.new }
+    ensures noted { is_noted slots.new (home (length slots.old) hash) steps hash place ≡ true }
+{
+    slots[at] = Slot {
+        hash,
+        place: place as u32,
+    };
 }
 
 /// Notes a place for a hash in the first slot that is free. The result is whether one was: then it was empty, or not.

@@ -67,9 +67,22 @@ impl<K: TableKey> Strays<K> {
         ensures moved { (from : ℕ) → IsStray K.cmp self.old key.now from → IsStray K.cmp self.new key.now place }
         ensures keeps { KeepsStrays K.eq K.cmp key.now self.old self.new }
     {
+        if self.places.is_empty() {
+            return;
+        }
         if let Some(found) = self.places.get_mut(key) {
             *found = place;
         }
+    }
+
+    /// A key that may have a place has none.
+    pub(crate) fn remove(&mut self, key: &K)
+        ensures keeps { KeepsStrays K.eq K.cmp key.now self.old self.new }
+    {
+        if self.places.is_empty() {
+            return;
+        }
+        self.places.remove(key);
     }
 
     /// Looks for the place of a key among entries.

@@ -1,22 +1,20 @@
 //! The table: its entries in a list, and the index of their keys.
-ghost use Rattle.std.specs.Prelude.{◌≡◌, ◌<◌, ◌≤◌, ◌+◌, ◌-◌, ◌++◌, ◌∷◌, [], ℕ, true, false, cond, length, take, swap, is_some, None, Some, IfSome, IfNone, IfOk, IfErr, IsOk, OnOk, OnErr, if◌then◌else◌, slice_get};
-ghost use Rattle.std.specs.List.{AllZip, swap_remove};
+ghost use Rattle.std.specs.Prelude.{◌≡◌, ◌<◌, ◌≤◌, ◌+◌, ◌-◌, ◌++◌, ◌∷◌, [], ℕ, true, false, cond, length, take, swap, is_some, None, Some, IfSome, IfNone, IfOk, IfErr, IsOk, OnOk, OnErr, if◌then◌else◌, slice_get, vec_capacity};
+ghost use Rattle.std.specs.List.{swap_remove};
 ghost use Rattle.std.specs.Option.{option_map, option_copied, option_to_list, unwrap_or};
 ghost use Rattle.std.specs.HashMap.Eq.{hash_map_eq_symm, hash_map_eq_trans};
 ghost use Rattle.indexmap.specs.IndexMap.{IsClone, IsEmpty, IsUnchanged, IsUnique, KeepsRoom, Updates, get, get_key, index_map_eq, index_map_len, index_of, insert_entry, insert_index, keys, set_value_at, spare, swap_remove_entry, values};
-ghost use Rattle.key_table.specs.Opened.{IsOpened};
+ghost use Rattle.key_table.specs.Opened.{IsOpened, open_entry};
 ghost use Rattle.key_table.specs.Reached.{key_hash};
 
-use crate::index::{exchange, find, hash_of, index, index_all, leave_place};
+use crate::index::{Noting, exchange, find, find_or_note, hash_of, index, index_all, leave_place};
 use crate::key::TableKey;
+use crate::lists::{copy_all, push_entry, reserve_both};
 use crate::slots::{Slot, empty_slots};
 use crate::strays::Strays;
 use std::alloc::{AllocError, AllocFailed, Global};
 use std::marker::Model;
 use std::mem;
-
-/// So many entries there are at most.
-const MOST: usize = 4_294_967_290;
 
 /// A table from keys to values, whose entries keep a consistent order.
 #[derive(Drop)]
@@ -92,9 +90,20 @@ impl<K: TableKey, V> KeyTable<K, V> {
     /// The place of a key.
     pub fn get_index_of(&self, key: &K) -> Option<usize>
         ensures index { result ≡ index_of K.eq self.now key.now }
+        ensures within { IfSome result (λ place. place < index_map_len self.now) }
+        ensures value { IfSome result (λ place. slice_get (values self.now) place ≡ get K.eq self.now key.now) }
+        ensures absent { result ≡ None → get K.eq self.now key.now ≡ None }
         ensures unique { IsUnique K.eq self.now }
     {
         self.find(hash_of(key), key)
+    }
+
+    /// The value at a place.
+    pub fn value_at(&self, place: usize) -> &V
+        requires { place < index_map_len self.now }
+        ensures { slice_get (values self.now) place ≡ Some result.now }
+    {
+        &self.entries[place].1
     }
 
     /// The value at a key.
@@ -115,16 +124,6 @@ impl<K: TableKey, V> KeyTable<K, V> {
 
     // ---- room
 
-    /// How many more entries fit.
-    fn room(&self) -> usize
-        ensures { result ≡ spare self.now }
-    {
-        let len = self.entries.len();
-        let entries = self.entries.capacity().saturating_sub(len);
-        let hashes = self.hashes.capacity().saturating_sub(len);
-        entries.min(hashes).min(MOST.saturating_sub(len))
-    }
-
     /// Whether so many more entries find enough slots that are empty.
     fn has_slots(&self, additional: usize) -> bool {
         self.used.saturating_add(additional) <= self.slots.len() / 2
@@ -140,7 +139,7 @@ impl<K: TableKey, V> KeyTable<K, V> {
         let count = self
             .entries
             .len()
-            .saturating_mul(3)
+            .saturating_mul(6)
             .saturating_add(additional.saturating_mul(2));
         let Ok(mut slots) = empty_slots(alloc, count.saturating_add(16)) else {
             return;
@@ -159,14 +158,7 @@ impl<K: TableKey, V> KeyTable<K, V> {
         ensures room { KeepsRoom self.old self.new }
         ensures unique { IsUnique K.eq self.new }
     {
-        if additional <= self.room() {
-            return Ok(());
-        }
-        if additional > MOST.saturating_sub(self.entries.len()) {
-            return Err(AllocError);
-        }
-        self.entries.reserve(additional)?;
-        self.hashes.reserve(additional)
+        reserve_both(&mut self.entries, &mut self.hashes, additional)
     }
 
     /// Makes room for so many more entries, so that as many inserts need no memory.
@@ -191,6 +183,8 @@ impl<K: TableKey, V> KeyTable<K, V> {
         requires { place < index_map_len self.old }
         ensures took { slice_get (values self.old) place ≡ Some result }
         ensures entries { self.new.entries ≡ set_value_at self.old.entries place value }
+        ensures keys { keys self.new ≡ keys self.old }
+        ensures updates { (key : K) → index_of K.eq self.old key ≡ Some place → Updates K.eq self.old self.new key (Some value) }
         ensures spare { spare self.new ≡ spare self.old }
     {
         mem::replace(&mut self.entries[place].1, value)
@@ -209,6 +203,63 @@ impl<K: TableKey, V> KeyTable<K, V> {
         self.used = self.used.saturating_add(is_new as usize);
         self.entries.push_reserved((key, value));
         self.hashes.push_reserved(hash);
+    }
+
+    /// A new key comes after all others, though no slot notes it: there are enough slots then, or it is a stray.
+    #[cold]
+    #[inline(never)]
+    fn push_beyond(&mut self, hash: u32, key: K, value: V) -> Result<(), AllocFailed<(K, V)>>
+        requires hash { hash ≡ key_hash (K.hash_input key) }
+        requires absent { get K.eq self.old key ≡ None }
+        ensures entries { OnOk result (self.new.entries ≡ self.old.entries ++ (key, value) ∷ []) }
+        ensures value_returned { IfErr result (λ y. y.value ≡ (key, value)) }
+        ensures err { OnErr result (IsUnchanged self.old self.new) }
+        ensures succeeds { 0 < spare self.old → IsOk result }
+        ensures spare { spare self.old ≤ spare self.new + 1 }
+    {
+        if self.reserve(1).is_err() {
+            return Err(AllocFailed {
+                value: (key, value),
+            });
+        }
+        self.push(hash, key, value);
+        Ok(())
+    }
+
+    /// One more slot is not empty.
+    fn count_slot(&mut self)
+        ensures { self.new ≡ self.old }
+    {
+        self.used = self.used.saturating_add(1);
+        if !self.has_slots(0) {
+            self.make_slots(0);
+        }
+    }
+
+    /// The place of a key. One that has none comes after all others, with a value; else the value comes back.
+    fn place_or_push(&mut self, key: K, value: V) -> Result<(usize, Option<V>), AllocFailed<(K, V)>>
+        ensures there { IfOk result (λ r. IfSome r.1 (λ v. (v ≡ value) × (index_of K.eq self.old key ≡ Some r.0) × (self.new.entries ≡ self.old.entries))) }
+        ensures new { IfOk result (λ r. IfNone r.1 ((r.0 ≡ index_map_len self.old) × (index_of K.eq self.old key ≡ None) × (self.new.entries ≡ self.old.entries ++ (key, value) ∷ []))) }
+        ensures value_returned { IfErr result (λ y. y.value ≡ (key, value)) }
+        ensures err { OnErr result (IsUnchanged self.old self.new) }
+        ensures absent { OnErr result (get K.eq self.old key ≡ None) }
+        ensures succeeds { 0 < spare self.old → IsOk result }
+        ensures spare { spare self.old ≤ spare self.new + 1 }
+        ensures unique { IsUnique K.eq self.old }
+    {
+        let (hash, place) = (hash_of(&key), self.entries.len());
+        match find_or_note(&mut self.slots, &self.strays, &self.entries, hash, &key) {
+            Noting::At(found) => Ok((found, Some(value))),
+            Noting::Noted => {
+                push_entry(&mut self.entries, &mut self.hashes, hash, (key, value))?;
+                self.count_slot();
+                Ok((place, None))
+            }
+            Noting::Nowhere => {
+                self.push_beyond(hash, key, value)?;
+                Ok((place, None))
+            }
+        }
     }
 
     /// Inserts an entry. A key that is there keeps its place, and the value that it had is returned with that place. A new key goes last.
@@ -234,18 +285,11 @@ impl<K: TableKey, V> KeyTable<K, V> {
         ensures spare { spare self.old ≤ spare self.new + 1 }
         ensures unique { IsUnique K.eq self.new }
     {
-        let hash = hash_of(&key);
-        if let Some(place) = self.find(hash, &key) {
-            return Ok((place, Some(self.replace_at(place, value))));
-        }
-        if self.reserve(1).is_err() {
-            return Err(AllocFailed {
-                value: (key, value),
-            });
-        }
-        let place = self.entries.len();
-        self.push(hash, key, value);
-        Ok((place, None))
+        let (place, back) = self.place_or_push(key, value)?;
+        let Some(value) = back else {
+            return Ok((place, None));
+        };
+        Ok((place, Some(self.replace_at(place, value))))
     }
 
     /// Inserts an entry as `insert_full` does, and returns the value that the key had.
@@ -265,20 +309,23 @@ impl<K: TableKey, V> KeyTable<K, V> {
         Ok(old)
     }
 
-    /// Gives a key a value, if it has none.
-    pub fn open(&mut self, key: K, value: V) -> Result<(), AllocError>
+    /// Gives a key a value, if it has none. The result is its place.
+    pub fn open(&mut self, key: K, value: V) -> Result<usize, AllocError>
     where
         V: Drop,
         ensures ok { OnOk result (IsOpened K.eq self.old self.new key value) }
+        ensures at { IfOk result (λ place. slice_get (values self.new) place ≡ get K.eq self.new key) }
+        ensures entries { OnOk result (self.new.entries ≡ open_entry K.eq self.old.entries key value) }
         ensures err { OnErr result (IsUnchanged self.old self.new) }
+        ensures absent { OnErr result (get K.eq self.old key ≡ None) }
+        ensures succeeds { 0 < spare self.old → IsOk result }
+        ensures spare { spare self.old ≤ spare self.new + 1 }
+        ensures unique { IsUnique K.eq self.new }
     {
-        let hash = hash_of(&key);
-        if let Some(_place) = self.find(hash, &key) {
-            return Ok(());
+        match self.place_or_push(key, value) {
+            Ok((place, _back)) => Ok(place),
+            Err(_) => Err(AllocError),
         }
-        self.reserve(1)?;
-        self.push(hash, key, value);
-        Ok(())
     }
 
     /// Takes an entry away: the last takes its place.
@@ -422,27 +469,6 @@ impl<K: TableKey, V> KeyTable<K, V> {
             used,
         })
     }
-}
-
-/// The same entries, and their hashes.
-fn copy_all<K: TableKey, V: Clone + Drop>(
-    alloc: Global,
-    entries: &[(K, V)],
-    hashes: &[u32],
-) -> Result<(Vec<(K, V)>, Vec<u32>), AllocError>
-    requires { length hashes.now ≡ length entries.now }
-    ensures entries { IfOk result (λ copies. AllZip (λ p q. (q.0 ≡ p.0) × V.is_clone p.1 q.1) entries.now copies.0.items) }
-    ensures hashes { IfOk result (λ copies. copies.1.items ≡ hashes.now) }
-{
-    let mut copies = Vec::with_capacity(alloc, entries.len())?;
-    let mut list = Vec::with_capacity(alloc, hashes.len())?;
-    for place in 0..entries.len() {
-        let (key, value) = &entries[place];
-        let own = (key.again()?, value.clone()?);
-        copies.push(own)?;
-        list.push(hashes[place])?;
-    }
-    Ok((copies, list))
 }
 
 impl<K: TableKey, V: PartialEq> PartialEq for KeyTable<K, V> {

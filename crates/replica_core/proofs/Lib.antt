@@ -20,3 +20,4 @@ pub mod MoveLemmas
 pub mod DrainLemmas
 pub mod AtOnceLemmas
 pub mod MakingRoom
+pub mod AskLemmas

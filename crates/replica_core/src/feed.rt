@@ -1,5 +1,8 @@
 //! The events of channels: OpenChannel, Position, Receive and Restart.
 ghost use Rattle.std.specs.Prelude.{◌≡◌, IfOk, IfErr, OnErr, true, None};
+ghost use Rattle.std.specs.FinSet as set;
+ghost use Rattle.apply_channel.specs.Channels.{received_gtids};
+ghost use Rattle.gtid_set.specs.Full.{IsFullExactly};
 ghost use Rattle.journal.specs.Writing.{is_number};
 ghost use Rattle.rows.specs.Fits.{Fits};
 ghost use Rattle.replica_core.specs.Machine.{open_channel, position_on, receive, restart};
@@ -7,11 +10,28 @@ ghost use Rattle.replica_core.specs.Faults.{IsFault, IsFaultIn, HasRoomFor, ask_
 
 use crate::event::Reply;
 use crate::machine::Core;
-use apply_channel::ReceiveFault;
-use gtid_set::SetFault;
+use apply_channel::{Channel, ReceiveFault};
+use gtid_set::{GtidSet, SetFault};
 use journal::Entry;
 use rows::{Name, fits};
 use std::alloc::Global;
+
+/// The set with which a channel asks where these are executed: with what it has received. A channel that has received nothing adds nothing, and takes
+/// a copy, with no pass over the intervals.
+pub(crate) fn asked_with(
+    alloc: Global,
+    executed: &GtidSet,
+    channel: &Channel,
+) -> Result<GtidSet, SetFault>
+    ensures ok { IfOk result (λ asked. asked ≡ set.union executed.now (received_gtids channel.now.channel.received)) }
+    ensures full { IsFullExactly result (set.union executed.now (received_gtids channel.now.channel.received)) }
+{
+    if channel.is_empty() {
+        executed.keeps_limits();
+        return executed.copy(alloc);
+    }
+    executed.union(alloc, channel.received())
+}
 
 impl Core {
     /// The event OpenChannel.
@@ -51,7 +71,7 @@ impl Core {
         let Some(one) = self.channels.get(channel) else {
             return Ok(Reply::NoChannel);
         };
-        let asked = self.journal.executed().union(alloc, one.received())?;
+        let asked = asked_with(alloc, self.journal.executed(), one)?;
         let shown = asked.copy(alloc)?;
         self.channels.set_ask(channel, asked);
         Ok(Reply::Ask(shown))

@@ -10,6 +10,7 @@ ghost use Rattle.replica_core.specs.Faults.{ask_set, IsFaultIn, HasRoomFor};
 ghost use Rattle.replica_core.specs.Kept.{IsKept, AreKept};
 ghost use Rattle.replica_core.specs.Core.{IsAtCore, IsNotAtCore, IsEntryAt, IsNoEntry};
 
+use crate::feed::asked_with;
 use crate::machine::Core;
 use apply_channel::Channel;
 use gtid_set::{GtidSet, SetFault};
@@ -67,7 +68,7 @@ impl Core {
         let Some(one) = self.channels.get(channel) else {
             return Ok(None);
         };
-        let asked = self.journal.executed().union(alloc, one.received())?;
+        let asked = asked_with(alloc, self.journal.executed(), one)?;
         Ok(Some(asked))
     }
 

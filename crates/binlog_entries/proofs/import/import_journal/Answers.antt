@@ -20,8 +20,8 @@ returns-in-Ok-encode_v2-clause-found c = record {
   journal = c.in-Ok-journal.journal;
   varied = c.in-Ok.log.varied.items;
   log = subst (λ (j : JournalValue). IsLog c.args.opening.now c.args.text.now j.previous j.entries c.in-Ok.log.varied.items) (sym c.in-Ok-journal.ensures.found) c.in-Ok.ensures.found;
-  keys = taken c.args.schema.now c.tables.result.now c.args.bytes c.in-Ok.log.varied.items c.deref.result.now c.tables.ensures.value c.deref.ensures.value c.in_default.ensures.none;
-  varies = c.in-Ok-varied_places.ensures ∙ (λ i. varied_places 0 (c.tables-2.ensures.value i) (c.deref-2.ensures.value i));
+  keys = taken c.args.schema.now c.tables.result.now c.args.bytes c.in-Ok.log.varied.items c.deref.result.now c.tables.ensures.value c.deref.ensures.value c.in-Ok-places_of.ensures.taken;
+  varies = c.in-Ok-places_of.ensures.places ∙ (λ i. varied_places 0 (c.tables.ensures.value i) (c.deref.ensures.value i));
   spells = c.in-Ok-encode_v2.ensures.spelled;
 }
 
@@ -31,7 +31,7 @@ returns-in-Err-journal-clause-refused c = record {
   entries = c.in-Ok.log.entries.items;
   varied = c.in-Ok.log.varied.items;
   log = c.in-Ok.ensures.found;
-  keys = taken c.args.schema.now c.tables.result.now c.args.bytes c.in-Ok.log.varied.items c.deref.result.now c.tables.ensures.value c.deref.ensures.value c.in_default.ensures.none;
+  keys = taken c.args.schema.now c.tables.result.now c.args.bytes c.in-Ok.log.varied.items c.deref.result.now c.tables.ensures.value c.deref.ensures.value c.in-Ok-places_of.ensures.taken;
   unfit = c.in-Err-journal.ensures.refused;
 }
 
@@ -41,7 +41,7 @@ returns-clause-refused c = record {
   entries = c.in-Ok.log.entries.items;
   varied = c.in-Ok.log.varied.items;
   log = c.in-Ok.ensures.found;
-  keys = taken c.args.schema.now c.tables.result.now c.args.bytes c.in-Ok.log.varied.items c.deref.result.now c.tables.ensures.value c.deref.ensures.value c.in_default.ensures.none;
+  keys = taken c.args.schema.now c.tables.result.now c.args.bytes c.in-Ok.log.varied.items c.deref.result.now c.tables.ensures.value c.deref.ensures.value c.in-Ok-places_of.ensures.taken;
   unfit = tt;
 }
 
@@ -51,7 +51,7 @@ key_refused tables same_tables opening bytes (faults.Key table column) text prev
 key_refused tables same_tables opening bytes (faults.Text fault) text previous entries varied same_varied ts vs log h = subst (λ (f : ReadFault). Refuses opening f text) (sym h) (inr refl)
 key_refused tables same_tables opening bytes (faults.Log fault) text previous entries varied same_varied ts vs log h = absurd h
 
-pub returns-in-Some-clause-refused : goal.returns-in-Some-clause-refused
-returns-in-Some-clause-refused c =
-    key_refused c.args.schema.now c.tables.result.now c.args.opening.now c.args.bytes c.in-Some.fault c.args.text.now c.in-Ok.log.previous c.in-Ok.log.entries.items c.in-Ok.log.varied.items c.deref.result.now
-    c.tables.ensures.value c.deref.ensures.value c.in-Ok.ensures.found c.in-Some.ensures.some
+pub returns-in-Err-places_of-clause-refused : goal.returns-in-Err-places_of-clause-refused
+returns-in-Err-places_of-clause-refused c =
+    key_refused c.args.schema.now c.tables.result.now c.args.opening.now c.args.bytes c.in-Err-places_of.fault c.args.text.now c.in-Ok.log.previous c.in-Ok.log.entries.items c.in-Ok.log.varied.items c.deref.result.now
+    c.tables.ensures.value c.deref.ensures.value c.in-Ok.ensures.found c.in-Err-places_of.ensures.fault
