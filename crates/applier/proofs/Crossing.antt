@@ -16,7 +16,7 @@ use Rattle.row_images.specs.contracts.key_values.KeyValues as KeyValues
 use Rattle.rows.specs.contracts.name.Name as Name
 use Rattle.rows.specs.contracts.change.Changes as Changes
 use Rattle.rows.specs.contracts.schema.Schema as Schema
-use Rattle.apply_channel.specs.contracts.slot.Slot as Slot
+use Rattle.apply_channel.specs.contracts.slot.ReceivedSlot as Slot
 use Rattle.journal.specs.contracts.Journal as Journal
 use Rattle.relay.specs.contracts.OwnJournal as OwnJournal
 use Rattle.dependency_graph.specs.contracts.graph.Graph as Graph

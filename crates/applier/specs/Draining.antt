@@ -20,6 +20,6 @@ pub record Drains (old new : ClosedValue) : Type 0 where
   pub sheets : new.sheets ≡ old.sheets
   pub counts : new.counts ≡ old.counts
 
--- a fault that a Commit of some seat may have: memory was refused, or the executed set would have too many sources or intervals
+-- a fault that a Commit of some seat may have: out of memory, or the executed set would have too many sources or intervals
 abbrev pub IsCommitFault : SetFault → State → Type 0
 IsCommitFault f s = (seat : ℕ) × IsFaultIn f (committed_set seat s)

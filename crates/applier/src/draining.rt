@@ -12,10 +12,9 @@ use replica_core::{Core, Event};
 use shared_replica::ClosedBook;
 use std::alloc::{AllocError, Global};
 
-/// Rolls back what is owned, and then applies with seat 1 what is left, channels ascending and places
-/// ascending. Stopped channels are left as they are. What was done before an error is kept, and it may be
-/// called again; another error than `Memory` comes only where a Commit from the state that was left
-/// may have it.
+/// Rolls back what is owned, and then applies with seat 1 what is left, channels ascending and places ascending. Stopped channels are left
+/// as they are. What was done before an error is kept, and it may be called again; another error than `Memory` comes only if a Commit from
+/// the state that was left may have it.
 pub fn drain(alloc: Global, book: &mut ClosedBook) -> Result<(), SetFault>
     ensures drains { Drains book.old book.new }
     ensures rests { OnOk result (NothingIsOwned book.new.now.state) }
@@ -87,7 +86,7 @@ fn settle_all(alloc: Global, book: &mut ClosedBook) -> Result<(), SetFault>
         };
         settle_channel(alloc, book, channel, count)?;
     }
-    // No memory holds so many channels.
+    // (no memory holds as many channels)
     Err(SetFault::Memory)
 }
 

@@ -1,7 +1,7 @@
 //! Tickets, and the deques through which they travel.
 ghost use Rattle.std.specs.Prelude.{◌≡◌, ℕ, IfOk, replicate, ◌++◌, ◌∷◌, [], ◌<◌, ◌≤◌, length, MatchOption, slice_index_or, set};
 ghost use Rattle.applier.specs.Tickets.{seen, take_ticket, reached, nowhere, fresh_on, passes_on, own_views, ReachAll, IsPush, IsPop, IsSteal};
-ghost use Rattle.applier.specs.declared.hand.Seen.{Seen};
+ghost use Rattle.applier.specs.declared.hand.SeenTickets.{SeenTickets};
 
 use crossbeam_deque::protocol::{Outcome, Protocol};
 use crossbeam_deque::{Steal, Stealer, Worker};
@@ -17,8 +17,8 @@ pub struct Ticket {
     pub place: usize,
 }
 
-/// The tickets that were put into a deque and taken from it. It is for contracts alone: no value of it is made.
-pub struct Seen {
+/// The tickets that were put into a deque and taken from it. Only contracts use it: no value of it is made.
+pub struct SeenTickets {
     pub put: LinkedList<Ticket>,
     pub taken: LinkedList<Ticket>,
 }
@@ -26,7 +26,7 @@ pub struct Seen {
 /// The tickets of a deque are put and taken once each.
 pub struct Once;
 
-impl Protocol<Ticket, Seen> for Once {
+impl Protocol<Ticket, SeenTickets> for Once {
     ghost use Rattle.std.specs.Prelude.{[]};
     ghost use Rattle.applier.specs.Tickets.{Balanced, seen};
 
@@ -37,35 +37,35 @@ impl Protocol<Ticket, Seen> for Once {
     ghost guest = { seen [] [] };
 }
 
-/// A ticket is put.
+/// How a ticket is put.
 pub struct Puts;
 
-impl Outcome<Ticket, Seen> for Puts {
+impl Outcome<Ticket, SeenTickets> for Puts {
     ghost use Rattle.std.specs.Prelude.{◌≡◌, ◌++◌};
     ghost use Rattle.applier.specs.Tickets.{seen};
 
     ghost then = { λ v xs w. w ≡ seen (v.put ++ xs) v.taken };
 }
 
-/// A ticket is taken.
+/// How a ticket is taken.
 pub struct Takes;
 
-impl Outcome<Ticket, Seen> for Takes {
+impl Outcome<Ticket, SeenTickets> for Takes {
     ghost use Rattle.std.specs.Prelude.{◌≡◌, ◌++◌};
     ghost use Rattle.applier.specs.Tickets.{seen};
 
     ghost then = { λ v xs w. w ≡ seen v.put (v.taken ++ xs) };
 }
 
-type Own = Worker<Ticket, Global, Seen, Once>;
+type Own = Worker<Ticket, Global, SeenTickets, Once>;
 
-type Theirs = Stealer<Ticket, Global, Seen, Once>;
+type Theirs = Stealer<Ticket, Global, SeenTickets, Once>;
 
 /// A pass on the deque of another worker. Contracts see what it took.
 #[derive(Drop)]
 pub struct Reach {
     stealer: Theirs,
-    pass: crossbeam_deque::Pass<Ticket, Seen>,
+    pass: crossbeam_deque::Pass<Ticket, SeenTickets>,
 }
 
 impl Model for Reach {

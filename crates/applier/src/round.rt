@@ -1,4 +1,4 @@
-//! Where a worker looks for places that are ready.
+//! A worker's search for places that are ready.
 use crate::hand::Ticket;
 use shared_replica::{Naming, SharedReplica};
 use std::sync::Wait;
@@ -63,7 +63,7 @@ impl Round {
         self.dry
     }
 
-    /// Looks from the first place of the first channel again.
+    /// Starts the search again at the first place of the first channel.
     pub(crate) fn restart(&mut self) {
         self.channel = 0;
         self.place = 0;

@@ -15,19 +15,19 @@ use shared_replica::{Naming, Pass, SharedReplica, Taking};
 use std::alloc::Global;
 use std::sync::Wait;
 
-/// How often a commit that is early is tried.
+/// How often an early commit is tried.
 const TRIES: u32 = 1000;
 
 /// How many places of a channel are put at once.
 const MOST: usize = 8;
 
-/// The fewest changes for which it pays to prepare a transaction without the lock. Applying fewer under
-/// it takes less time there than looking for their rows and installing what was prepared.
+/// The fewest changes for which it pays to prepare a transaction without the lock. Applying fewer under the lock takes less time there than
+/// finding their rows and installing what was prepared.
 const LEAST: usize = 8;
 
 /// What became of a place.
 #[derive(Drop)]
-enum Attempt {
+enum Tried {
     /// It is committed.
     Committed,
     /// Another seat has it, or it is not ready, or refused.
@@ -56,12 +56,12 @@ pub(crate) fn work<N: Naming, G: Gate, R: Wait>(
             return Ok(());
         };
         match try_place(rt, alloc, replica, gate, pass, &round, ticket) {
-            Ok(Attempt::Committed) => {
+            Ok(Tried::Committed) => {
                 round.restart();
                 put_ready(rt, replica, hand, &round);
             }
-            Ok(Attempt::Passed) => {}
-            Ok(Attempt::Left) => round.leave(ticket.channel),
+            Ok(Tried::Passed) => {}
+            Ok(Tried::Left) => round.leave(ticket.channel),
             Err(fault) => return Err(fault),
         }
     }
@@ -94,7 +94,7 @@ fn next_place<N: Naming, G: Gate, R: Wait>(
     Some(ticket)
 }
 
-/// A ticket of another worker, each of which is asked once.
+/// A ticket of another worker; each of them is asked once.
 fn steal_ticket(hand: &mut Hand, me: usize) -> Option<Ticket> {
     for other in 0..hand.count() {
         if other != me {
@@ -106,8 +106,7 @@ fn steal_ticket(hand: &mut Hand, me: usize) -> Option<Ticket> {
     None
 }
 
-/// Puts what is ready into its own deque, where that had no ticket: else the same places would be put
-/// again after each commit.
+/// Puts what is ready into its own deque, if that had no ticket: else the same places would be put again after each commit.
 fn put_ready<N: Naming, R: Wait>(
     rt: &R,
     replica: &SharedReplica<N>,
@@ -169,24 +168,24 @@ fn try_place<N: Naming, G: Gate, R: Wait>(
     pass: &mut Pass<N>,
     round: &Round,
     ticket: Ticket,
-) -> Result<Attempt, SetFault>
+) -> Result<Tried, SetFault>
     ensures { GoesOn pass.old pass.new }
 {
     if round.is_left(ticket.channel) {
-        return Ok(Attempt::Passed);
+        return Ok(Tried::Passed);
     }
     let Taking { reply, footprint } = take(rt, alloc, replica, pass, ticket)?;
     match reply {
         Reply::Taken(gtid) => {
             return commit_taken(rt, alloc, replica, gate, pass, gtid, footprint);
         }
-        Reply::Stopped => return Ok(Attempt::Left),
-        _ => return Ok(Attempt::Passed),
+        Reply::Stopped => return Ok(Tried::Left),
+        _ => return Ok(Tried::Passed),
     }
 }
 
-/// Prepares what was taken without the lock, where there is what that needs, and commits it. A commit that is early is tried again;
-/// one that stays early is rolled back, and the worker leaves its channel.
+/// Prepares what was taken without the lock, if there is what that needs, and commits it. An early commit is tried again; if it stays
+/// early, it is rolled back, and the worker leaves its channel.
 fn commit_taken<N: Naming, G: Gate, R: Wait>(
     rt: &R,
     alloc: Global,
@@ -195,7 +194,7 @@ fn commit_taken<N: Naming, G: Gate, R: Wait>(
     pass: &mut Pass<N>,
     gtid: Gtid,
     footprint: Option<(Transaction, Footprint)>,
-) -> Result<Attempt, SetFault>
+) -> Result<Tried, SetFault>
     requires { IfSome footprint (λ p. MayPrepare p.1.schema p.0 p.1) }
     ensures { GoesOn pass.old pass.new }
 {
@@ -209,15 +208,15 @@ fn commit_taken<N: Naming, G: Gate, R: Wait>(
         match commit(rt, alloc, replica, pass, patch)? {
             Reply::Committed(gtid) => {
                 gate.after_commit(pass.seat(), gtid);
-                return Ok(Attempt::Committed);
+                return Ok(Tried::Committed);
             }
             Reply::Early(_) => backoff.snooze(),
-            _ => return Ok(Attempt::Passed),
+            _ => return Ok(Tried::Passed),
         }
         patch = None;
     }
     roll_back(rt, alloc, replica, pass)?;
-    Ok(Attempt::Left)
+    Ok(Tried::Left)
 }
 
 /// A patch for what the seat has taken, if there is what it needs and its changes apply. It is prepared

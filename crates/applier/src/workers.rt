@@ -33,10 +33,9 @@ struct Worker<N: Naming> {
     fault: Option<SetFault>,
 }
 
-/// One worker for each pass, on a thread of its own where one can be started; else its part is done on
-/// another. The passes come back in order, each of the same seat, with its earlier receipts as a
-/// prefix, and with further ones of Take, Commit and Rollback alone. What a worker doesn't finish is
-/// left to `drain`.
+/// One worker for each pass, on a thread of its own if one can be started; else its part is done on another. The passes come back in order,
+/// each of the same seat, with its earlier receipts as a prefix, and with further ones of Take, Commit and Rollback alone. What a worker
+/// doesn't finish is left to `drain`.
 pub fn run_workers<N: Naming + Send + Sync, G: Gate + Sync, R: Threads + Wait + Sync>(
     rt: &R,
     alloc: Global,

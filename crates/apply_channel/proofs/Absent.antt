@@ -6,12 +6,12 @@ use Rattle.std.specs.Ordering.{eq_by_cmp}
 use Rattle.std.specs.FinSet as set
 use Rattle.gtid_text.specs.declared.Gtid.{Gtid}
 use Rattle.gtid_text.specs.Gtids.{gtid_cmp, same_gtid}
-use Rattle.gtid_text.proofs.SameGtid.{same_flip, gtid_total}
 use Rattle.gtid_set.proofs.SetLemmas.{gtid_tied}
 use Rattle.rows.specs.declared.change.Transaction.{Transaction}
 use Rattle.apply_channel.specs.Channels.{Received, are_settled, received_gtids}
 use Rattle.apply_channel.specs.Kept.{is_open_at}
 use Rattle.std.proofs.lemmas.Bool.{and_parts, or_parts, and_right}
+use Rattle.lemmas.proofs.SameGtid.{same_flip, gtid_total}
 
 abbrev among : Gtid → List Received → Bool
 among g es = list_any (λ h. eq_by_cmp gtid_cmp g h) (map (λ (e : Received). e.gtid) es)

@@ -6,19 +6,15 @@ use Rattle.std.proofs.lemmas.List.{length_push}
 use Rattle.rows.specs.declared.change.Transaction.{Transaction}
 use Rattle.gtid_text.specs.declared.Gtid.{Gtid}
 use Rattle.gtid_text.specs.Gtids.{same_gtid}
-use Rattle.gtid_text.proofs.SameGtid.{same_itself, same_flip, same_is_equal}
 use Rattle.apply_channel.specs.Slots.{Placed}
 use Rattle.apply_channel.specs.Channels.{Received, settle, map_at, as_executed}
 use Rattle.apply_channel.specs.Kept.{entries_of, received_of, is_open_of, is_open_at, IsLastOpen, AreLinked, AreLast}
 use Rattle.std.proofs.lemmas.Bool.{and_parts, false_from_ne_true}
 use Rattle.std.proofs.lemmas.Option.{same_Some, slice_get_within}
-use Rattle.rows.proofs.Lists.{none_some, lt_cases}
-use Rattle.apply_channel.proofs.Nodes.{and_false}
-
--- ---- places in order
-
-three : (i p : ℕ) → (i < p) ⊎ ((i ≡ p) ⊎ (p < i))
-three i p = grind arith
+use Rattle.lemmas.proofs.Tests.{and_false}
+use Rattle.lemmas.proofs.Options.{none_some}
+use Rattle.lemmas.proofs.SameGtid.{same_itself, same_flip, same_is_equal}
+use Rattle.lemmas.proofs.Numbers.{lt_eq_gt as three, lt_cases}
 
 -- ---- the last place
 

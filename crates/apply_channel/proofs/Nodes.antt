@@ -8,14 +8,16 @@ use Rattle.rows.specs.declared.schema.Table.{Table}
 use Rattle.rows.specs.declared.change.Key.{Key}
 use Rattle.rows.specs.declared.change.Transaction.{Transaction}
 use Rattle.rows.specs.Order.{key_eq}
-use Rattle.rows.specs.WriteSet.{write_set, shares_key, touches, is_among}
+use Rattle.rows.specs.WriteSet.{write_set, touches, is_among}
+use Rattle.rows.specs.Conflicts.{conflicts, conflict_is_sharing}
 use Rattle.dependency_graph.specs.Graphs as graphs
 use Rattle.dependency_graph.specs.Graphs.{Point, gone, are_finished, unfinished, drop_finished, mark_at, finish_at, point_at, least, may_go, IsNextReady}
 use Rattle.dependency_graph.proofs.Entries.{flip}
 use Rattle.apply_channel.specs.Channels.{Received, holds_back, txn_at, blocker, is_ready, next_ready, first_waiting, are_settled, map_at, as_executed}
 use Rattle.apply_channel.specs.Kept.{AreKeysOf, IsNodeOf, AreNodesOf}
 use Rattle.std.proofs.lemmas.Option.{same_Some, slice_get_within}
-use Rattle.rows.proofs.Lists.{none_some}
+use Rattle.lemmas.proofs.Options.{none_some}
+use Rattle.lemmas.proofs.Tests.{or_four, and_false}
 
 -- ---- as many nodes as entries
 
@@ -94,13 +96,6 @@ any_false : (xs : List Key) → list_any (λ x. false) xs ≡ false
 any_false [] = refl
 any_false (x ∷ xs) = any_false xs
 
-or_four : (a b c d : Bool) → ((a || b) || (c || d)) ≡ ((a || c) || (b || d))
-or_four true b c d = refl
-or_four false true true d = refl
-or_four false false true d = refl
-or_four false true false d = refl
-or_four false false false d = refl
-
 any_or : (p q : Key → Bool) (xs : List Key) → list_any (λ x. p x || q x) xs ≡ (list_any p xs || list_any q xs)
 any_or p q [] = refl
 any_or p q (x ∷ xs) = ap (λ b. (p x || q x) || b) (any_or p q xs) ∙ or_four (p x) (q x) (list_any p xs) (list_any q xs)
@@ -114,14 +109,15 @@ common_swap a b = swapped key_eq b a ∙ (λ i. list_any (λ y. list_any (λ x. 
 
 -- keys denote those that a transaction touches
 common_alike : (schema : List Table) (t u : Transaction) (keys others : List Key) → ((k : Key) → is_among keys k ≡ touches schema t k) → ((k : Key) → is_among others k ≡ touches schema u k)
-    → list_any (λ k. is_among others k) keys ≡ shares_key schema u t
+    → list_any (λ k. is_among others k) keys ≡ conflicts schema u t
 common_alike schema t u keys others kt ku =
     (λ i. list_any (λ k. ku k i) keys)
     ∙ common_swap (write_set schema u) keys
     ∙ (λ i. list_any (λ k. kt k i) (write_set schema u))
+    ∙ sym (conflict_is_sharing schema u t)
 
 back_by : (schema : List Table) (t : Transaction) (keys : List Key) (p : Point) (b : Bool) (o : Option Transaction) → ((k : Key) → is_among keys k ≡ touches schema t k) → b ≡ is_none o → AreKeysOf schema p.keys o
-    → list_any (λ k. not b && is_among p.keys k) keys ≡ option_map_or (λ u. shares_key schema u t) o false
+    → list_any (λ k. not b && is_among p.keys k) keys ≡ option_map_or (λ u. conflicts schema u t) o false
 back_by schema t keys p true None kt is ku = any_false keys
 back_by schema t keys p false (Some u) kt is ku = common_alike schema t u keys p.keys kt ku
 back_by schema t keys p false None kt is ku = absurd (true≢false (sym is))
@@ -285,7 +281,7 @@ take_there (suc n) (y ∷ xs) (suc i) x lt is = take_there n xs i x (omega (lt, 
 pub AreExecuted : List Received → ℕ → Type 0
 AreExecuted es n = (i : ℕ) (e : Received) → i < n → slice_get es i ≡ Some e → is_some e.txn ≡ false
 
-no_txn : (schema : List Table) (t : Transaction) (o : Option Transaction) → is_some o ≡ false → option_map_or (λ u. shares_key schema u t) o false ≡ false
+no_txn : (schema : List Table) (t : Transaction) (o : Option Transaction) → is_some o ≡ false → option_map_or (λ u. conflicts schema u t) o false ≡ false
 no_txn schema t None h = refl
 no_txn schema t (Some u) h = absurd (true≢false h)
 
@@ -324,10 +320,6 @@ all_by (e ∷ es) h = (λ i. none_of e.txn (h 0 e refl) i && all_by es (λ j f i
     none_of : (o : Option Transaction) → is_some o ≡ false → is_none o ≡ true
     none_of None h = refl
     none_of (Some t) h = absurd (true≢false h)
-
-pub and_false : (b : Bool) → (b && false) ≡ false
-and_false true = refl
-and_false false = refl
 
 one_open : (es : List Received) (n : ℕ) (e : Received) → slice_get es n ≡ Some e → is_some e.txn ≡ true → are_settled es ≡ false
 one_open [] n e is h = none_some e is

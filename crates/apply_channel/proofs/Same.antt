@@ -5,10 +5,10 @@ use Rattle.std.specs.Ordering.{nat_cmp, is_eq, eq_by_cmp}
 use Rattle.std.specs.Cmp.Lexicographic.{slice_cmp, nat_list_cmp_total}
 use Rattle.std.proofs.lemmas.Cmp.{tied_itself}
 use Rattle.std.proofs.lemmas.List.{take_more}
+use Rattle.lemmas.proofs.Numbers.{equal_of}
 use Rattle.apply_channel.specs.Slots.{Placed}
 use Rattle.apply_channel.specs.Channels.{Keyed, Received}
 use Rattle.apply_channel.specs.Kept.{entries_of, received_of}
-use Rattle.row_images.proofs.Equal.{eq_of}
 use Rattle.apply_channel.proofs.Slots.{entries_length}
 
 -- channels are the same where all that is seen of them is
@@ -34,7 +34,7 @@ take_entry slots items received i x same seen e lt =
     sym (ap (take (i + 1)) (sym all) ∙ take_more (entries_of items) i (received_of x) lt' ∙ ap (λ r. take i (entries_of items) ++ r ∷ []) (read_entry items i x e lt) ∙ ap (λ es. take i es ++ received_of x ∷ []) all)
 
 pub names_same : (a b : List ℕ) → eq_by_cmp (slice_cmp nat_cmp) a b ≡ true → a ≡ b
-names_same a b e = slice_cmp-IsAntisymmetric nat_cmp-IsAntisymmetric a b (eq_of (slice_cmp nat_cmp a b) e)
+names_same a b e = slice_cmp-IsAntisymmetric nat_cmp-IsAntisymmetric a b (equal_of (slice_cmp nat_cmp a b) e)
 
 pub names_pass : (a b : List ℕ) → a ≡ b → eq_by_cmp (slice_cmp nat_cmp) a b ≡ true
 names_pass a b e = ap (eq_by_cmp (slice_cmp nat_cmp) a) (sym e) ∙ ap is_eq (tied_itself nat_list_cmp_total a)

@@ -1,9 +1,9 @@
 -- The table of places after one change.
 use Rattle.std.proofs.Common.{◌≡◌, ℕ, Bool, true, false, cond, List, [], Option, Some, None, is_some, refl, sym, ap, ◌∙◌}
 use Rattle.std.specs.Option.{unwrap_or}
+use Rattle.lemmas.proofs.SameGtid.{same_flip, same_is_equal, same_itself}
 use Rattle.gtid_text.specs.declared.Gtid.{Gtid}
 use Rattle.gtid_text.specs.Gtids.{same_gtid}
-use Rattle.gtid_text.proofs.SameGtid.{same_flip, same_is_equal, same_itself}
 use Rattle.apply_channel.specs.Kept.{IsOpened, entry_of, place_of}
 
 unwrap_cond : (b : Bool) (w o : Option (Option ℕ)) → unwrap_or (cond b w o) None ≡ cond b (unwrap_or w None) (unwrap_or o None)

@@ -7,7 +7,7 @@ use Rattle.std.specs.Cmp.Lexicographic.{slice_cmp}
 use Rattle.std.specs.FinSet as set
 use Rattle.rows.specs.declared.schema.Table.{Table}
 use Rattle.rows.specs.declared.change.Transaction.{Transaction}
-use Rattle.rows.specs.WriteSet.{shares_key}
+use Rattle.rows.specs.Conflicts.{conflicts}
 use Rattle.gtid_text.specs.declared.Gtid.{Gtid}
 use Rattle.gtid_text.specs.Gtids.{same_gtid}
 use Rattle.journal.specs.declared.Entry.{Entry}
@@ -34,20 +34,20 @@ pub record Keyed : Type 0 where
 abbrev pub new_channel : List ℕ → Bool → ChannelValue
 new_channel name preserve = record { name = name; preserve = preserve; stopped = false; asked = None; received = [] }
 
--- a GTID is at a place, with its transaction where it is not executed
+-- a GTID is at a place, with its transaction if it is not executed
 abbrev pub IsPlace : Keyed → ℕ → Gtid → Option Transaction → Type 0
 IsPlace c place gtid txn = slice_get c.channel.received place ≡ Some (record { gtid = gtid; txn = txn })
 
 abbrev pub IsNoPlace : Keyed → ℕ → Type 0
 IsNoPlace c place = slice_get c.channel.received place ≡ None
 
--- the transaction at a place, where the GTID there is not executed
+-- the transaction at a place, if the GTID there is not executed
 abbrev pub txn_at : List Received → ℕ → Option Transaction
 txn_at received place = option_and_then (λ e. e.txn) (slice_get received place)
 
 -- an entry that is not executed and shares a key with a transaction
 abbrev pub holds_back : List Table → Transaction → Received → Bool
-holds_back schema t e = option_map_or (λ u. shares_key schema u t) e.txn false
+holds_back schema t e = option_map_or (λ u. conflicts schema u t) e.txn false
 
 -- the least earlier place that is not executed and shares a key
 abbrev pub blocker : List Table → List Received → ℕ → Option ℕ

@@ -21,7 +21,7 @@ IsFull (Err fault) = IsFullFault fault
 abbrev pub gtids_with : Entry → ChannelValue → Gtids
 gtids_with entry channel = set.insert (received_gtids channel.received) entry.gtid
 
--- where the channel was not full, the set of received GTIDs was not made; because an allocation failed only where it has not too many sources
+-- if the channel was not full, the set of received GTIDs was not made; because an allocation failed only if it has not too many sources
 abbrev pub IsReceiveFault : ReceiveFault → Gtids → Type 0
 IsReceiveFault Full s = Unit {0}
 IsReceiveFault (Set fault) s = IsFullExactly {T = Unit {0}} (Err fault) s

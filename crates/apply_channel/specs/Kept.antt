@@ -25,7 +25,7 @@ abbrev pub AreKeysOf : List Table → List Key → Option Transaction → Type 0
 AreKeysOf schema keys None = Unit {0}
 AreKeysOf schema keys (Some txn) = (k : Key) → is_among keys k ≡ touches schema txn k
 
--- a node of an entry: finished where it is executed, and else with the keys of its transaction
+-- a node of an entry: finished if it is executed, and else with the keys of its transaction
 pub record IsNodeOf (schema : List Table) (p : Point) (e : Received) : Type 0 where
   pub finished : p.finished ≡ is_none e.txn
   pub keys : AreKeysOf schema p.keys e.txn

@@ -11,7 +11,7 @@ pub record Placed : Type 0 where
   pub txn : Option Transaction
   pub earlier : Option ℕ
 
--- the last of so many places
+-- the last of this many places
 abbrev pub last_of : ℕ → Option ℕ
 last_of zero = None
 last_of (suc n) = Some n
@@ -20,6 +20,6 @@ abbrev pub placed_in : Gtid → State → Placed
 placed_in gtid Executed = record { gtid = gtid; txn = None; earlier = None }
 placed_in gtid (Open places txn) = record { gtid = gtid; txn = Some txn; earlier = last_of places }
 
--- an entry with the place before it, where it is not executed
+-- an entry with the place before it, if it is not executed
 abbrev pub placed : Gtid → Option Transaction → Option ℕ → Placed
 placed gtid txn earlier = record { gtid = gtid; txn = txn; earlier = cond (is_some txn) earlier None }

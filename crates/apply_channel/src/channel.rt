@@ -9,7 +9,7 @@ ghost use Rattle.apply_channel.specs.Full.{IsFull, gtids_with, IsReceiveFault};
 ghost use Rattle.gtid_set.specs.Full.{IsFullExactly};
 
 use crate::places::{last_place, open_unless, put_node, put_place, take_place};
-use crate::slot::{Slot, copy_unless, keys_unless, same_entries};
+use crate::slot::{ReceivedSlot, copy_unless, keys_unless, same_entries};
 use dependency_graph::Graph;
 use gtid_set::{GtidSet, SetFault};
 use gtid_text::Gtid;
@@ -42,7 +42,7 @@ pub struct Channel {
     preserve: bool,
     stopped: bool,
     asked: Option<GtidSet>,
-    slots: Vec<Slot>,
+    slots: Vec<ReceivedSlot>,
     places: KeyTable<Gtid, Option<usize>>,
     graph: Graph,
     received: GtidSet,
@@ -138,7 +138,7 @@ impl Channel {
         self.asked.as_ref()
     }
 
-    /// Keeps the set that it asks with.
+    /// Stores the set that it asks with.
     pub fn set_ask(&mut self, asked: GtidSet)
         ensures { self.new ≡ record self.old { channel = with_asked asked self.old.channel } }
     {
@@ -166,7 +166,7 @@ impl Channel {
         self.slots.is_empty()
     }
 
-    /// The GTID at a place, with its transaction where the GTID is not executed.
+    /// The GTID at a place, with its transaction if the GTID is not executed.
     pub fn entry(&self, place: usize) -> Option<(Gtid, Option<&Transaction>)>
         ensures { MatchOption result (IsNoPlace self.now place) (λ e. IsPlace self.now place e.0 (option_copied e.1)) }
     {
@@ -184,7 +184,7 @@ impl Channel {
         MOST <= self.slots.len()
     }
 
-    /// Puts an entry at the next place, which is the result. The caller states whether its GTID is executed.
+    /// Appends an entry and returns its place. The caller states whether its GTID is executed.
     pub fn receive(
         &mut self,
         alloc: Global,
@@ -207,7 +207,7 @@ impl Channel {
         }
     }
 
-    /// Puts an entry at the next place.
+    /// Appends an entry.
     fn put_entry(&mut self, alloc: Global, entry: &Entry, executed: bool) -> Result<(), SetFault>
         requires { is_full self.old.channel ≡ false }
         ensures put { OnOk result (self.new ≡ with_entry executed entry.now self.old) }
@@ -220,7 +220,7 @@ impl Channel {
         self.put(alloc, entry, executed)
     }
 
-    /// Puts an entry at the next place, with its node's keys and its transaction, unless it is executed.
+    /// Appends an entry, with its node's keys and its transaction unless it is executed.
     fn put(&mut self, alloc: Global, entry: &Entry, executed: bool) -> Result<(), SetFault>
         requires { is_full self.old.channel ≡ false }
         ensures put { OnOk result (self.new ≡ with_entry executed entry.now self.old) }
@@ -234,7 +234,8 @@ impl Channel {
         let txn = copy_unless(executed, &entry.txn)?;
         let earlier = open_unless(executed, &mut self.places, &entry.gtid)?;
         let place = self.slots.len();
-        self.slots.push(Slot::new(entry.gtid, txn, earlier))?;
+        self.slots
+            .push(ReceivedSlot::new(entry.gtid, txn, earlier))?;
         match put_node(alloc, &mut self.graph, &mut self.received, keys, entry.gtid) {
             Ok(()) => {}
             Err(fault) => {
@@ -250,7 +251,7 @@ impl Channel {
         Ok(())
     }
 
-    /// Puts an executed GTID at the next place, where every GTID is executed.
+    /// Appends an executed GTID to a channel in which every GTID is executed.
     fn put_settled(&mut self, gtid: Gtid) -> Result<(), SetFault>
         requires room { is_full self.old.channel ≡ false }
         requires settled { are_settled self.old.channel.received ≡ true }
@@ -263,14 +264,14 @@ impl Channel {
         }
         self.slots.reserve(1)?;
         self.received.add(gtid)?;
-        let _ = self.slots.push(Slot::new(gtid, None, None));
+        let _ = self.slots.push(ReceivedSlot::new(gtid, None, None));
         self.graph.add_finished();
         Ok(())
     }
 }
 
 impl Channel {
-    /// Drops the transaction at the last place of a GTID that is not executed. The result is the place of the GTID before that one.
+    /// Drops the transaction at the last place of a GTID that is not executed; returns the GTID's place before that one.
     fn settle(&mut self, gtid: &Gtid, place: usize) -> Option<usize>
         requires { IsLastOpen self.old.channel.received gtid.now (length self.old.channel.received) (Some place) }
         ensures settled { self.new ≡ record self.old { channel = settle_at place self.old.channel } }
@@ -287,7 +288,7 @@ impl Channel {
     fn last_open(&self, gtid: &Gtid) -> Option<usize>
         ensures { IsLastOpen self.now.channel.received gtid.now (length self.now.channel.received) result }
     {
-        // (where all is executed, no set is asked)
+        // (if all is executed, no set is searched)
         if self.is_settled() {
             return None;
         }
@@ -297,7 +298,7 @@ impl Channel {
         last_place(&self.places, gtid)
     }
 
-    /// Drops the transactions of a GTID that is executed now, at all its places. Does not allocate.
+    /// Marks a GTID as executed: its transactions are dropped at all its places. It does not allocate.
     pub fn mark_executed(&mut self, gtid: &Gtid)
         ensures { self.new ≡ record self.old { channel = settle_channel gtid.now self.old.channel } }
     {
@@ -374,8 +375,8 @@ fn same_asked(left: &Option<GtidSet>, right: &Option<GtidSet>) -> bool
 }
 
 impl Channel {
-    /// Puts the entry of a slot at the next place.
-    fn put_slot(&mut self, alloc: Global, slot: &Slot) -> Result<(), AllocError>
+    /// Appends the entry of a slot.
+    fn put_slot(&mut self, alloc: Global, slot: &ReceivedSlot) -> Result<(), AllocError>
         ensures { OnOk result (self.new ≡ record self.old { channel = with_received (received_of slot.now) self.old.channel }) }
     {
         let gtid = slot.gtid();

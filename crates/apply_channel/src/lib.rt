@@ -1,8 +1,8 @@
 //! A channel: what a replica has received from one source (its relay log), and which of it may be applied. (MySQL 8.0 Reference Manual,
 //! "MySQL Multi-Source Replication".)
 //!
-//! What a contract sees: a `Channel` is its name, its flags, the set that it asked with last, and a list of entries with places from 0,
-//! where an executed entry has no transaction any more; beside it the schema by which keys are compared.
+//! What a contract sees: a `Channel` is its name, its flags, the set that it asked with last, and a list of entries with places from 0, of
+//! which an executed one has no transaction any more; and besides the schema by which keys are compared.
 //!
 //! `receive` adds an entry at the next place or leaves all as it was, `mark_executed` drops the transactions of a GTID at all its places,
 //! `blocker` is the least earlier place that is not executed and shares a key, `next_ready` the least place that has no blocker.

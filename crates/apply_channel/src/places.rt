@@ -26,7 +26,7 @@ pub(crate) fn last_place(places: &KeyTable<Gtid, Option<usize>>, gtid: &Gtid) ->
     }
 }
 
-/// Gives the GTID an entry, if it has none: its last place.
+/// Ensures that the GTID has an entry; returns its last place.
 fn open_entry(
     places: &mut KeyTable<Gtid, Option<usize>>,
     gtid: Gtid,

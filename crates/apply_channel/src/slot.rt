@@ -22,22 +22,22 @@ enum State {
 }
 
 /// A received entry.
-pub(crate) struct Slot {
+pub(crate) struct ReceivedSlot {
     gtid: Gtid,
     state: State,
 }
 
-impl Drop for Slot {
+impl Drop for ReceivedSlot {
     // (by hand: for a caller the end of a Slot is one call)
     fn drop(self) {
-        let Slot {
+        let ReceivedSlot {
             gtid: _gtid,
             state: _state,
         } = self;
     }
 }
 
-impl Model for Slot {
+impl Model for ReceivedSlot {
     ghost use Rattle.std.specs.Coded.{codes};
     ghost use Rattle.apply_channel.specs.Slots.{Placed, placed_in};
 
@@ -48,7 +48,7 @@ impl Model for Slot {
     ghost view = { λ s. placed_in s.gtid s.state };
 }
 
-/// So many places have this one as the last.
+/// How many places there are up to and with this one; 0 for none.
 fn count_to(earlier: Option<usize>) -> u32
     requires { option_map_or suc earlier 0 < 4294967296 }
     ensures { last_of result ≡ earlier }
@@ -59,7 +59,7 @@ fn count_to(earlier: Option<usize>) -> u32
     }
 }
 
-/// The last of so many places.
+/// `Some(places - 1)`, or `None` for 0.
 fn last_of(places: u32) -> Option<usize>
     ensures { result ≡ last_of places }
 {
@@ -69,18 +69,18 @@ fn last_of(places: u32) -> Option<usize>
     Some(places as usize - 1)
 }
 
-impl Slot {
+impl ReceivedSlot {
     /// A slot with an entry. One that has no transaction is executed.
-    pub(crate) fn new(gtid: Gtid, txn: Option<Transaction>, earlier: Option<usize>) -> Slot
+    pub(crate) fn new(gtid: Gtid, txn: Option<Transaction>, earlier: Option<usize>) -> ReceivedSlot
         requires { option_map_or suc earlier 0 < 4294967296 }
         ensures { result ≡ placed gtid txn earlier }
     {
         match txn {
-            Some(txn) => Slot {
+            Some(txn) => ReceivedSlot {
                 gtid,
                 state: State::Open(count_to(earlier), txn),
             },
-            None => Slot {
+            None => ReceivedSlot {
                 gtid,
                 state: State::Executed,
             },
@@ -93,7 +93,7 @@ impl Slot {
         self.gtid
     }
 
-    /// Its transaction, where it is not executed.
+    /// Its transaction, if it is not executed.
     pub(crate) fn txn(&self) -> Option<&Transaction>
         ensures { option_copied result ≡ self.now.txn }
     {
@@ -148,7 +148,7 @@ pub(crate) fn copy_unless(
 }
 
 /// Whether the transactions of two slots are the same, or both are missing.
-fn same_txn(left: &Slot, right: &Slot) -> bool
+fn same_txn(left: &ReceivedSlot, right: &ReceivedSlot) -> bool
     ensures { Decides result (left.now.txn ≡ right.now.txn) }
 {
     match left.txn() {
@@ -161,7 +161,7 @@ fn same_txn(left: &Slot, right: &Slot) -> bool
 }
 
 /// Whether two slots have the same entry.
-fn same_entry(left: &Slot, right: &Slot) -> bool
+fn same_entry(left: &ReceivedSlot, right: &ReceivedSlot) -> bool
     ensures { Decides result (received_of left.now ≡ received_of right.now) }
 {
     if left.gtid() != right.gtid() {
@@ -171,7 +171,7 @@ fn same_entry(left: &Slot, right: &Slot) -> bool
 }
 
 /// Whether two lists of slots have the same entries.
-pub(crate) fn same_entries(left: &[Slot], right: &[Slot]) -> bool
+pub(crate) fn same_entries(left: &[ReceivedSlot], right: &[ReceivedSlot]) -> bool
     ensures { Decides result (entries_of left.now ≡ entries_of right.now) }
 {
     let mut left = left;

@@ -6,20 +6,20 @@ use Rattle.std.specs.Option.{option_map, option_map_or}
 use Rattle.std.specs.FinMap as finmap
 use Rattle.std.specs.FinMap.{get-insert}
 use Rattle.std.proofs.lemmas.Bool.{eqb-true, eq-eqb, and_parts}
+use Rattle.lemmas.proofs.Numbers.{not_less}
 use Rattle.gtid_text.specs.declared.Gtid.{Gtid}
 use Rattle.rows.specs.declared.change.Key.{Key}
 use Rattle.rows.specs.declared.schema.Table.{Table}
 use Rattle.rows.specs.Order.{key_eq}
 use Rattle.rows.specs.Total.{key_total, key_eq_same}
 use Rattle.rows.specs.WriteSet.{write_set}
-use Rattle.source_history.specs.World as history
+use Rattle.history.specs.Sources as history
 use Rattle.world.specs.declared.verdict.Verdict.TheVariants.{Shared}
 use Rattle.world.specs.Search.{or_next, first}
 use Rattle.world.specs.Folds.{FirstTouch, touched_by, shares_with, shared_from}
 use Rattle.journal.specs.declared.Entry.{Entry}
 use Rattle.audit.specs.Contents.{as_pair}
 use Rattle.audit.specs.Gaps.{Needs, needs_over, touch_last, last_of_keys, is_own}
-use Rattle.rows.proofs.Lists.{not_less}
 use Rattle.world.proofs.Finding.{none_next}
 
 abbrev source_of : Gtid → ℕ

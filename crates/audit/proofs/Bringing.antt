@@ -7,26 +7,26 @@ use Rattle.std.specs.FinMap.{same_map, get-empty, get-insert}
 use Rattle.std.specs.FinSet as finset
 use Rattle.std.proofs.lemmas.Bool.{eqb-true, eq-eqb, and_from, and_parts, true_from_ne_false, not_from_false}
 use Rattle.gtid_text.specs.declared.Gtid.{Gtid}
-use Rattle.gtid_text.proofs.SameGtid.{gtid_total, gtid_exact, same_is_equal}
 use Rattle.rows.specs.declared.change.Transaction.{Transaction}
-use Rattle.rows.proofs.Patching.{not_both}
 use Rattle.journal.specs.declared.Entry.{Entry}
 use Rattle.journal.specs.Journals.{JournalValue}
-use Rattle.source_history.specs.World.{World, content, is_opened}
-use Rattle.source_history.specs.World as history
+use Rattle.history.specs.Sources.{World, content, is_opened}
+use Rattle.history.specs.Sources as history
 use Rattle.world.specs.declared.verdict.Verdict.TheVariants.{Unequal}
 use Rattle.world.specs.Audit.{all_entries, first_contents, is_recorded_in, is_content, is_unequal, unequal}
-use Rattle.world.proofs.Finding.{when_none, first_none, taken}
+use Rattle.world.proofs.Finding.{when_none, first_none}
 use Rattle.world.proofs.Contents.{content_at, entry_at, entry_from, entry_content, in_all, of_all, some_of}
-use Rattle.ordered_journals.proofs.Lists.{get_take}
 use Rattle.world.proofs.Meanings.{content_is_by}
 use Rattle.audit.specs.Contents.{Contents, as_entry, in_order}
 use Rattle.audit.specs.Worlds.{AreAllIn, AreMarkedMore, IsPlaceOf, IsWorldOf, LieBeyond}
 use Rattle.std.proofs.lemmas.Option.{same_Some, slice_get_within}
+use Rattle.lemmas.proofs.Options.{none_some}
+use Rattle.lemmas.proofs.Lists.{taken, get_take}
+use Rattle.lemmas.proofs.Tests.{not_both}
+use Rattle.lemmas.proofs.SameGtid.{gtid_total, gtid_exact, same_is_equal}
 use Rattle.gtid_text.specs.Gtids.{gtid_cmp, same_gtid}
 use Rattle.gtid_set.specs.Sets.{Gtids}
 use Rattle.gtid_set.proofs.SetLemmas.{gtid_tied}
-use Rattle.rows.proofs.Lists.{none_some}
 
 -- options that give the same
 pub same_options : (o p : Option Transaction) → ((t : Transaction) → o ≡ Some t → p ≡ Some t) → ((t : Transaction) → p ≡ Some t → o ≡ Some t) → o ≡ p

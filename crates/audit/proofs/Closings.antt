@@ -7,7 +7,7 @@ use Rattle.std.specs.FinMap as finmap
 use Rattle.std.specs.FinMap.{get-insert, get-empty}
 use Rattle.std.specs.FinSet as set
 use Rattle.std.specs.FinSet.{contains-insert, contains-empty}
-use Rattle.std.proofs.lemmas.Bool.{eqb-true, eq-eqb, cases_Bool, and_parts, false_from_ne_true, and_from, not_from_false, cases_lt}
+use Rattle.std.proofs.lemmas.Bool.{eqb-true, eq-eqb, cases_Bool, and_parts, false_from_ne_true, and_from, not_from_false}
 use Rattle.gtid_text.specs.declared.Gtid.{Gtid}
 use Rattle.gtid_text.specs.Gtids.{gtid_cmp, same_gtid}
 use Rattle.gtid_set.specs.Sets.{Gtids}
@@ -17,18 +17,19 @@ use Rattle.rows.specs.declared.schema.Table.{Table}
 use Rattle.rows.specs.Order.{key_cmp, key_eq}
 use Rattle.rows.specs.Total.{key_total, key_eq_same, key_eq_self}
 use Rattle.rows.specs.declared.change.Transaction.{Transaction}
-use Rattle.rows.specs.WriteSet.{write_set, touches, is_among, shares_key}
+use Rattle.rows.specs.WriteSet.{write_set, touches, is_among}
+use Rattle.rows.specs.Conflicts.{conflicts, conflict_is_sharing}
 use Rattle.journal.specs.declared.Entry.{Entry}
 use Rattle.journal.specs.Journals.{JournalValue}
-use Rattle.source_history.specs.World.{World, content, is_opened}
-use Rattle.source_history.specs.World as history
-use Rattle.source_history.proofs.Gtids.{number_less}
-use Rattle.source_history.proofs.Entries.{rising}
+use Rattle.history.specs.Sources.{World, content, is_opened}
+use Rattle.history.specs.Sources as history
+use Rattle.history.proofs.SourceGtids.{number_less}
+use Rattle.history.proofs.SourceEntries.{rising}
 use Rattle.world.specs.declared.verdict.Verdict.TheVariants.{NotClosed}
 use Rattle.world.specs.Search.{or_next, when, first_at}
 use Rattle.world.specs.Audit.{unequal, purged, is_recorded_in, is_recorded_before, is_left_out, not_closed}
 use Rattle.world.specs.Folds.{FirstTouch, touched_by, last_toucher, has_gap, least_left_out}
-use Rattle.world.proofs.Finding.{none_when, none_first, filtered, left_by_filter, below_test}
+use Rattle.world.proofs.Finding.{none_when, none_first}
 use Rattle.world.proofs.Contents.{content_at}
 use Rattle.world.proofs.Gaps.{guarded, latest_in, latest_over, content_here, nothing_left_out, firsts_same}
 use Rattle.audit.specs.Gaps.{is_recorded, lacks, gap_at, gap_among, first_gap, Needs, needs_over}
@@ -37,9 +38,10 @@ use Rattle.audit.proofs.Needing.{rises, needs_are}
 use mathlib.Core.Bool.{or_assoc, or-false}
 use Rattle.std.proofs.lemmas.Option.{same_Some}
 use Rattle.std.proofs.lemmas.Map.Keys.{any_passes_from_place}
-use Rattle.gtid_text.proofs.SameGtid.{same_is_equal, gtid_total}
-use Rattle.rows.proofs.Patching.{not_both}
-use Rattle.rows.proofs.Lists.{any_at, not_out}
+use Rattle.lemmas.proofs.Tests.{not_both, not_out}
+use Rattle.lemmas.proofs.SameGtid.{same_is_equal, gtid_total}
+use Rattle.lemmas.proofs.Lists.{filtered, left_by_filter, any_at}
+use Rattle.lemmas.proofs.Numbers.{lt_unless, below_test}
 use Rattle.world.proofs.Meanings.{le_cases}
 
 -- ---- a journal in one pass
@@ -77,13 +79,6 @@ any_not P (Some f) e = (f, refl, e)
 some_list : (P : Gtid → Bool) (o : Option (List Gtid)) (gs : List Gtid) → o ≡ Some gs → option_map_or (λ hs. list_any P hs) o false ≡ list_any P gs
 some_list P o gs e = ap (λ x. option_map_or (λ hs. list_any P hs) x false) e
 
--- neither at the same place nor after it
-in_front : (a b : ℕ) → (a ≡ b → ⊥) → (b < a → ⊥) → a < b
-in_front a b same more = elim (cases_lt a b) [
-  | inl l ↦ l
-  | inr m ↦ elim (le_cases b a m) [ inl l ↦ absurd (more l) | inr e ↦ absurd (same (sym e)) ]
-]
-
 module _ (w : World) (outside : (g : Gtid) (t : Transaction) → content w g ≡ Some t → is_opened w g ≡ false) (journals : List JournalValue) where
   abbrev es0 : List history.Entry
   es0 = finmap.entries w.contents
@@ -111,7 +106,7 @@ module _ (w : World) (outside : (g : Gtid) (t : Transaction) → content w g ≡
             let less : f.0.number < e.gtid.number = below f.0.number e.gtid.number rest.0 in
             let there = content_at w e.gtid e.txn (content_here w journals outside equal none_purged i j place e hj he out) in
             let up = rising w in
-            let before : ok.1 < there.0 = in_front ok.1 there.0
+            let before : ok.1 < there.0 = lt_unless ok.1 there.0
             (λ same.
             let is : f ≡ (e.gtid, e.txn) = same_Some f (e.gtid, e.txn) (sym ok.2 ∙ (ap (slice_get es0) same ∙ there.1)) in
             let n : f.0.number ≡ e.gtid.number = ap (λ (x : history.Entry). x.0.number) is in
@@ -150,7 +145,7 @@ module _ (w : World) (outside : (g : Gtid) (t : Transaction) → content w g ≡
         by : ((is_opened w e.gtid ≡ true) ⊎ (is_opened w e.gtid ≡ false)) → least_left_out w j place e ≡ None
         by (inl opened_it) =
             none_first (λ l h. when (is_left_out w j place e h) (NotClosed e.gtid h.0)) es0 (λ l h hl. none_when (is_left_out w j place e h) (NotClosed e.gtid h.0)
-            (not_out (is_opened w e.gtid) ((h.0.source == e.gtid.source) && (nat_lt h.0.number e.gtid.number && (shares_key w.schema h.1 e.txn && not (is_recorded_before j place h.0)))) opened_it))
+            (not_out (is_opened w e.gtid) ((h.0.source == e.gtid.source) && (nat_lt h.0.number e.gtid.number && (conflicts w.schema h.1 e.txn && not (is_recorded_before j place h.0)))) opened_it))
         by (inr out) =
             nothing_left_out w journals outside equal none_purged i j hj place e he before
             (no_gap place e he out (and_false (not (is_opened w e.gtid)) (lacks needed (is_recorded_before j place) e.gtid) (not_from_false (is_opened w e.gtid) out) held))
@@ -203,8 +198,8 @@ pub touched_here : (g : Gtid) (keys : List Key) (q : Key) → is_some (finmap.ge
 touched_here g keys q = touched_is g keys finmap.empty q ∙ ap (λ o. is_among keys q || is_some o) (get-empty key_cmp q) ∙ or-false (is_among keys q)
 
 -- the test of sharing by that map
-pub shares_here : (schema : List Table) (t u : Transaction) (g : Gtid) → list_any (λ key. is_some (finmap.get (touched_by g (write_set schema u) finmap.empty) key)) (write_set schema t) ≡ shares_key schema t u
-shares_here schema t u g = λ i. list_any (λ key. touched_here g (write_set schema u) key i) (write_set schema t)
+pub shares_here : (schema : List Table) (t u : Transaction) (g : Gtid) → list_any (λ key. is_some (finmap.get (touched_by g (write_set schema u) finmap.empty) key)) (write_set schema t) ≡ conflicts schema t u
+shares_here schema t u g = (λ i. list_any (λ key. touched_here g (write_set schema u) key i) (write_set schema t)) ∙ sym (conflict_is_sharing schema t u)
 
 pub not_earlier : (o s l r : Bool) → (s && l) ≡ false → false ≡ (not o && (s && (l && r)))
 not_earlier true s l r e = refl

@@ -7,10 +7,11 @@ use Rattle.std.proofs.lemmas.Bool.{or_left, or_right}
 use Rattle.std.proofs.lemmas.Bool.Decides.{nat_tests}
 use Rattle.std.proofs.lemmas.List.{length-append}
 use Rattle.std.proofs.lemmas.Option.{same_Some}
+use Rattle.lemmas.proofs.Options.{none_some}
+use Rattle.lemmas.proofs.SameGtid.{same_is_equal, same_itself, gtid_total}
 use Rattle.gtid_text.specs.declared.Gtid.{Gtid}
 use Rattle.gtid_text.specs.declared.Span.{Span}
 use Rattle.gtid_text.specs.Gtids.{gtid_cmp, same_gtid}
-use Rattle.gtid_text.proofs.SameGtid.{same_is_equal, same_itself, gtid_total}
 use Rattle.gtid_set.specs.Edges.{HasEdges, HasEnds, ends_of, has_before, changes_at, next_to}
 use Rattle.gtid_set.specs.Full.{interval_count, most_intervals}
 use Rattle.gtid_set.specs.Runs.{runs}
@@ -19,13 +20,12 @@ use Rattle.gtid_set.specs.Spans.{set_of}
 use Rattle.gtid_set.proofs.EdgeLemmas.{contains-listed, len-listed, length-ends, edge_at, few_intervals, listed_edges, moved_edges, union_few, difference_few}
 use Rattle.gtid_set.proofs.RunLemmas.{runs_merged}
 use Rattle.gtid_set.proofs.SetSources.{union_none, with_one}
-use Rattle.ordered_journals.proofs.Covering.{in_insert}
+use Rattle.history.proofs.Covering.{in_insert}
 use Rattle.rows.specs.declared.change.Transaction.{Transaction}
-use Rattle.rows.proofs.Lists.{none_some}
 use Rattle.journal.specs.declared.Entry.{Entry}
 use Rattle.journal.specs.Journals.{JournalValue}
-use Rattle.source_history.specs.World.{World}
-use Rattle.source_history.specs.World as history
+use Rattle.history.specs.Sources.{World}
+use Rattle.history.specs.Sources as history
 use Rattle.world.specs.Audit.{all_entries, first_contents, present}
 use Rattle.audit.specs.Faults.{LacksMany, intervals_of}
 use Rattle.audit.specs.Missing.{number_before}

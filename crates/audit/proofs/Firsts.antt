@@ -20,8 +20,8 @@ use Rattle.journal.specs.declared.Entry.{Entry}
 use Rattle.audit.specs.Contents.{IsAscending, as_entry, as_pair, contents_of, in_order}
 use Rattle.audit.specs.Worlds.{IsPlaceOf}
 use Rattle.std.proofs.lemmas.Option.{slice_get-get_or}
+use Rattle.lemmas.proofs.SameGtid.{same_is_equal, gtid_total, gtid_exact}
 use Rattle.audit.proofs.Stored.{at, entries-stored, get-stored}
-use Rattle.gtid_text.proofs.SameGtid.{same_is_equal, gtid_total, gtid_exact}
 
 abbrev pub gtid_of : Entry → Gtid
 gtid_of e = e.gtid

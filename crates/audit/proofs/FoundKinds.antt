@@ -4,12 +4,12 @@ use Rattle.std.specs.Option.{option_map, unwrap_or}
 use Rattle.std.specs.FinMap as finmap
 use Rattle.std.specs.FinSet as set
 use Rattle.std.proofs.lemmas.Option.{same_Some}
+use Rattle.lemmas.proofs.Tests.{not_both}
+use Rattle.lemmas.proofs.Options.{none_some}
 use Rattle.gtid_text.specs.declared.Gtid.{Gtid}
 use Rattle.rows.specs.WriteSet.{write_set}
-use Rattle.rows.proofs.Lists.{none_some}
-use Rattle.rows.proofs.Patching.{not_both}
 use Rattle.journal.specs.Journals.{JournalValue}
-use Rattle.source_history.specs.World.{World, of_source, entries_in}
+use Rattle.history.specs.Sources.{World, of_source, entries_in}
 use Rattle.world.specs.declared.verdict.Verdict.{Verdict}
 use Rattle.world.specs.declared.verdict.Verdict.TheVariants.{Unequal, Purged, Missing, Shared, NotClosed, DoesNotApply, Sound}
 use Rattle.world.specs.Search.{or_next, when, first_at}

@@ -10,31 +10,32 @@ use Rattle.std.proofs.lemmas.Bool.{and_from, or_cases, or_left, or_right, not-tr
 use Rattle.std.proofs.lemmas.Option.{same_Some}
 use Rattle.std.proofs.lemmas.Map.Keys.{any_passes_from_place}
 use mathlib.Core.Bool.{or_assoc, or-false}
+use Rattle.lemmas.proofs.Tests.{not_both}
+use Rattle.lemmas.proofs.Lists.{any_at, get_take, all_at, taken}
+use Rattle.lemmas.proofs.Options.{none_some}
+use Rattle.lemmas.proofs.SameGtid.{same_itself, same_is_equal, gtid_total}
 use Rattle.gtid_text.specs.declared.Gtid.{Gtid}
 use Rattle.gtid_text.specs.Gtids.{gtid_cmp, same_gtid}
-use Rattle.gtid_text.proofs.SameGtid.{same_itself, same_is_equal, gtid_total}
 use Rattle.gtid_set.specs.Sets.{Gtids, gtid}
 use Rattle.rows.specs.declared.change.Key.{Key}
 use Rattle.rows.specs.declared.change.Transaction.{Transaction}
 use Rattle.rows.specs.declared.schema.Table.{Table}
 use Rattle.rows.specs.Order.{key_eq}
 use Rattle.rows.specs.Total.{key_eq_same, key_eq_self}
-use Rattle.rows.specs.WriteSet.{write_set, touches, shares_key}
-use Rattle.rows.proofs.Lists.{none_some, any_at}
-use Rattle.rows.proofs.Patching.{not_both}
+use Rattle.rows.specs.WriteSet.{write_set, touches}
+use Rattle.rows.specs.Conflicts.{conflicts, sharing_is_conflict, conflict_is_sharing}
 use Rattle.journal.specs.declared.Entry.{Entry}
 use Rattle.journal.specs.Journals.{JournalValue}
-use Rattle.ordered_journals.proofs.Lists.{get_take, all_at}
-use Rattle.ordered_journals.proofs.Covering.{in_insert}
-use Rattle.source_history.specs.World.{World, content, is_opened}
-use Rattle.source_history.specs.World as history
-use Rattle.source_history.proofs.Gtids.{number_less}
-use Rattle.source_history.proofs.Entries.{rising}
+use Rattle.history.proofs.Covering.{in_insert}
+use Rattle.history.specs.Sources.{World, content, is_opened}
+use Rattle.history.specs.Sources as history
+use Rattle.history.proofs.SourceGtids.{number_less}
+use Rattle.history.proofs.SourceEntries.{rising}
 use Rattle.world.specs.declared.verdict.Verdict.{Verdict}
 use Rattle.world.specs.declared.verdict.Verdict.TheVariants.{Unequal, Purged, NotClosed}
 use Rattle.world.specs.Audit.{is_content, is_unequal, unequal, purged, is_recorded_in, is_recorded_before}
 use Rattle.world.specs.Cases.{IsEntryOf, IsLeftOut, NamesFault}
-use Rattle.world.proofs.Finding.{when_none, first_none, taken}
+use Rattle.world.proofs.Finding.{when_none, first_none}
 use Rattle.world.proofs.Contents.{content_at, at_content, entry_at, entry_from}
 use Rattle.world.proofs.Meanings.{content_is_by, le_cases}
 use Rattle.audit.specs.Ordered.{is_there, AreInOrder, IsInOrder}
@@ -284,16 +285,16 @@ first_once _ ps = refl
 
 -- ---- keys
 
-shared_key : (schema : List Table) (t u : Transaction) → shares_key schema t u ≡ true → (k : Key) × (touches schema t k ≡ true) × (touches schema u k ≡ true)
-shared_key schema t u h =
-    let r = any_at (touches schema u) (write_set schema t) h in
+conflict_key : (schema : List Table) (t u : Transaction) → conflicts schema t u ≡ true → (k : Key) × (touches schema t k ≡ true) × (touches schema u k ≡ true)
+conflict_key schema t u h =
+    let r = any_at (touches schema u) (write_set schema t) (sym (conflict_is_sharing schema t u) ∙ h) in
     (r.1, any_passes_from_place (key_eq r.1) (write_set schema t) r.0 r.1 r.2 (key_eq_self r.1), r.3)
 
-shares_by : (schema : List Table) (t u : Transaction) (k : Key) → touches schema t k ≡ true → touches schema u k ≡ true → shares_key schema t u ≡ true
-shares_by schema t u k a b =
+conflict_by : (schema : List Table) (t u : Transaction) (k : Key) → touches schema t k ≡ true → touches schema u k ≡ true → conflicts schema t u ≡ true
+conflict_by schema t u k a b =
     let r = any_at (key_eq k) (write_set schema t) a in
     let same : k ≡ r.1 = key_eq_same k r.1 r.3 in
-    any_passes_from_place (touches schema u) (write_set schema t) r.0 r.1 r.2 (ap (touches schema u) (sym same) ∙ b)
+    sharing_is_conflict schema t u (any_passes_from_place (touches schema u) (write_set schema t) r.0 r.1 r.2 (ap (touches schema u) (sym same) ∙ b))
 
 -- what comes before a place comes before a later one
 stands_later : (j : JournalValue) (q place : ℕ) (g : Gtid) → q < place → is_recorded_before j q g ≡ true → is_recorded_before j place g ≡ true
@@ -347,7 +348,7 @@ module _ (world : World) (journals : List JournalValue) where
         content = w.nearest.there;
         source = w.nearest.source;
         smaller = w.nearest.smaller;
-        shares = shares_by world.schema w.nearest.u x.txn w.key w.nearest.touching (ap (λ (t : Transaction). touches world.schema t w.key) (sym txn) ∙ w.touched);
+        shares = conflict_by world.schema w.nearest.u x.txn w.key w.nearest.touching (ap (λ (t : Transaction). touches world.schema t w.key) (sym txn) ∙ w.touched);
         left_out = w.left_out;
       }
 
@@ -365,10 +366,10 @@ module _ (world : World) (journals : List JournalValue) where
 
       -- where every entry comes after what it needs, it comes after all that precede it and share a key with it
       stands_behind : (n k : ℕ) (e : Entry) (t : Transaction) (h : Gtid) (u : Transaction) → k < n → slice_get j.entries k ≡ Some e → content world e.gtid ≡ Some t → content world h ≡ Some u
-          → h.source ≡ e.gtid.source → h.number < e.gtid.number → shares_key world.schema u t ≡ true → is_recorded_before j k h ≡ true
+          → h.source ≡ e.gtid.source → h.number < e.gtid.number → conflicts world.schema u t ≡ true → is_recorded_before j k h ≡ true
       stands_behind zero k e t h u l he ft fu s less shares = absurd (omega arith)
       stands_behind (suc n) k e t h u l he ft fu s less shares =
-          let key = shared_key world.schema u t shares in
+          let key = conflict_key world.schema u t shares in
           let at = content_at world h u fu in
           let need = need_at world e.gtid t key.0 at.0 (h, u) ft key.2 at.1 s less key.1 in
           let f = need.toucher in
@@ -389,7 +390,7 @@ module _ (world : World) (journals : List JournalValue) where
                   stands_later j a.0 k h b.1
                   (stands_behind n a.0 a.1 f.1 h u (below a.0 k n b.1 l) b.0 (ap (content world) a.3 ∙ ff) fu
                   (same_source ∙ ap (λ (x : Gtid). x.source) (sym a.3)) (subst (λ (x : Gtid). h.number < x.number) (sym a.3) smaller)
-                  (shares_by world.schema u f.1 key.0 key.1 need.touching))
+                  (conflict_by world.schema u f.1 key.0 key.1 need.touching))
             ]
           ]
         where

@@ -10,9 +10,13 @@ use Rattle.std.specs.FinMap.{get-empty, get-insert}
 use Rattle.std.specs.FinSet as set
 use Rattle.std.proofs.lemmas.Bool.{or_left, or_right, and_parts, false_from_ne_true}
 use Rattle.std.proofs.lemmas.Option.{same_Some}
+use Rattle.lemmas.proofs.Tests.{not_both}
+use Rattle.lemmas.proofs.Numbers.{lt_cases, not_less}
+use Rattle.lemmas.proofs.Lists.{get_append_left, get_push_cases, get_set_cases, get_set_from, get_take, taken}
+use Rattle.lemmas.proofs.Options.{none_some}
+use Rattle.lemmas.proofs.SameGtid.{gtid_total, same_is_equal, same_itself}
 use Rattle.gtid_text.specs.declared.Gtid.{Gtid}
 use Rattle.gtid_text.specs.Gtids.{gtid_cmp, same_gtid}
-use Rattle.gtid_text.proofs.SameGtid.{gtid_total, same_is_equal, same_itself}
 use Rattle.gtid_set.specs.Sets.{Gtids}
 use Rattle.gtid_set.proofs.SetLemmas.{gtid_tied}
 use Rattle.rows.specs.Apply.{Rows}
@@ -21,24 +25,20 @@ use Rattle.rows.specs.declared.change.Change.TheVariants.{Insert, Delete, Update
 use Rattle.rows.specs.declared.change.Key.{Key}
 use Rattle.rows.specs.declared.change.Transaction.{Transaction}
 use Rattle.rows.specs.declared.schema.Table.{Table}
-use Rattle.rows.specs.Total.{key_eq_self}
-use Rattle.rows.specs.Order.{key_eq}
-use Rattle.rows.specs.WriteSet.{is_among, keys_of_change, touches, write_set}
-use Rattle.rows.proofs.Lists.{none_some, get_append_left, lt_cases, not_less}
-use Rattle.rows.proofs.Patching.{not_both}
+use Rattle.rows.specs.WriteSet.{keys_of_change, touches, write_set}
+use Rattle.rows.specs.Conflicts.{conflicts_at, conflict_at_both}
 use Rattle.journal.specs.declared.Entry.{Entry}
 use Rattle.journal.specs.Journals.{JournalValue}
-use Rattle.ordered_journals.proofs.Covering.{entries_append}
-use Rattle.ordered_journals.proofs.Lists.{get_push_cases, get_set_cases, get_set_from, get_take}
-use Rattle.source_history.specs.World.{World, content, is_opened}
-use Rattle.source_history.specs.World as history
+use Rattle.history.proofs.Covering.{entries_append}
+use Rattle.history.specs.Sources.{World, is_opened}
+use Rattle.history.specs.Sources as history
 use Rattle.world.specs.declared.verdict.Verdict.TheVariants.{Unequal, Purged, Shared, Sound}
 use Rattle.world.specs.Audit.{all_entries, first_contents, found_in_keys, is_content, is_recorded_in, is_unequal, missing, not_closed, purged, shared, unequal, verdict_of_keys, world_of}
 use Rattle.world.specs.Meaning.{AreJournals}
 use Rattle.world.specs.Search.{or_next}
 use Rattle.world.specs.Equal.{txn_eq}
 use Rattle.world.proofs.Contents.{at_content}
-use Rattle.world.proofs.Finding.{none_first, none_next, none_when, taken}
+use Rattle.world.proofs.Finding.{none_first, none_next, none_when}
 use Rattle.world.proofs.Same.{txn_same, txn_self}
 use Rattle.audit.specs.Contents.{Contents}
 use Rattle.audit.specs.Gathering.{AgreeApart, AreOwned, AreRuns, HasNoRun, IsGathered, IsListed, IsPut, IsRunAt, Run, begun, longer}
@@ -330,16 +330,12 @@ module _ (opened : Gtids) (schema : List Table) (journals : List JournalValue) (
   source_owns : (i : ℕ) (h : history.Entry) → slice_get (finmap.entries theirs.contents) i ≡ Some h → (key : Key) → touches schema h.1 key ≡ true → owner (key_mark key) ≡ Some h.0.source
   source_owns i h hi key is = g.owned h.0 h.1 (ap (λ (c : Contents). finmap.get c h.0) contents_same ∙ at_content theirs i h hi) key is
 
-  among_at : (keys : List Key) (k : ℕ) (key : Key) → slice_get keys k ≡ Some key → is_among keys key ≡ true
-  among_at [] k key e = none_some key e
-  among_at (x ∷ keys) zero key e = or_left (key_eq key x) (is_among keys key) (ap (key_eq key) (same_Some x key e) ∙ key_eq_self key)
-  among_at (x ∷ keys) (suc k) key e = or_right (key_eq key x) (is_among keys key) (among_at keys k key e)
-
   gathered_apart : shared theirs ≡ None
   gathered_apart = none_first _ (finmap.entries theirs.contents) (λ i h hi. none_first _ (write_set schema h.1) (λ k key hk. none_first _ (finmap.entries theirs.contents) (λ l b hl.
-      none_when (nat_lt b.0.source h.0.source && touches schema b.1 key) (Shared b.0 h.0 key) (false_from_ne_true (nat_lt b.0.source h.0.source && touches schema b.1 key) (λ both.
-      let p = and_parts (nat_lt b.0.source h.0.source) (touches schema b.1 key) both in
-      let same : b.0.source ≡ h.0.source = same_Some b.0.source h.0.source (sym (source_owns l b hl key p.1) ∙ source_owns i h hi key (among_at (write_set schema h.1) k key hk)) in
+      none_when (nat_lt b.0.source h.0.source && conflicts_at schema b.1 h.1 key) (Shared b.0 h.0 key) (false_from_ne_true (nat_lt b.0.source h.0.source && conflicts_at schema b.1 h.1 key) (λ both.
+      let p = and_parts (nat_lt b.0.source h.0.source) (conflicts_at schema b.1 h.1 key) both in
+      let touched = conflict_at_both schema b.1 h.1 key p.1 in
+      let same : b.0.source ≡ h.0.source = same_Some b.0.source h.0.source (sym (source_owns l b hl key touched.0) ∙ source_owns i h hi key touched.1) in
       not_both (nat_lt b.0.source h.0.source) p.0 (ap (λ n. nat_lt n h.0.source) same ∙ not_less h.0.source))))))
 
 -- what was gathered agrees

@@ -2,10 +2,10 @@
 use Rattle.std.proofs.Common.{◌≡◌, Bool, true, false, ◌||◌, ◌⊎◌, inl, inr, List, [], ◌∷◌, ◌++◌, cond, refl, sym, ap, subst, ◌∙◌, if◌then◌else◌}
 use Rattle.std.proofs.lemmas.Bool.{cases_Bool, or_right}
 use Rattle.std.specs.List.{list_any}
+use Rattle.lemmas.proofs.SameGtid.{same_flip, same_is_equal}
 use Rattle.indexmap.specs.IndexSet.{insert_key}
 use Rattle.gtid_text.specs.Gtids.{same_gtid}
 use Rattle.gtid_text.specs.declared.Gtid.{Gtid}
-use Rattle.gtid_text.proofs.SameGtid.{same_flip, same_is_equal}
 
 any_step : (b c d : Bool) → b || (c || d) ≡ (b || c) || d
 any_step true c d = refl

@@ -27,3 +27,9 @@ pub mod MarkLemmas
 pub mod Gatherings
 pub mod Listings
 pub mod Owning
+pub mod Visits
+pub mod Behind
+pub mod Joining
+pub mod Passes
+pub mod PassingInOrder
+pub mod RefusalsInOrder

@@ -5,28 +5,28 @@ use Rattle.std.specs.Option.{option_map, unwrap_or}
 use Rattle.std.specs.List.{Contains, list_all}
 use Rattle.std.specs.List.Sorted.{IsPermutation}
 use Rattle.std.specs.Ordering.{is_eq}
-use Rattle.std.specs.declared.cmp.Ordering.{Ordering}
-use Rattle.std.specs.declared.cmp.Ordering.TheVariants.{Less, Equal, Greater}
+use Rattle.std.specs.declared.cmp.Ordering.TheVariants.{Equal}
 use Rattle.std.specs.FinMap as finmap
 use Rattle.std.specs.FinMap.{same_map}
 use Rattle.std.specs.FinSet as set
 use Rattle.std.proofs.lemmas.List.Elements.{Contains-append_cases, Contains-append_left, Contains-append_right}
 use Rattle.std.proofs.lemmas.List.Sorted.{Contains-permutation, IsPermutation-sym}
 use Rattle.std.proofs.lemmas.Option.{get_or_from_slice_get, same_Some, slice_get_within, slice_get-get_or}
+use Rattle.lemmas.proofs.Lists.{get_map}
+use Rattle.lemmas.proofs.Options.{none_some}
+use Rattle.lemmas.proofs.SameGtid.{gtid_total, gtid_exact, same_is_equal, same_itself}
+use Rattle.lemmas.proofs.Numbers.{equal_of}
 use Rattle.gtid_text.specs.declared.Gtid.{Gtid}
 use Rattle.gtid_text.specs.Gtids.{gtid_cmp}
-use Rattle.gtid_text.proofs.SameGtid.{gtid_total, gtid_exact, same_is_equal, same_itself}
 use Rattle.gtid_set.specs.Sets.{Gtids}
 use Rattle.gtid_set.proofs.SetLemmas.{gtid_tied}
 use Rattle.rows.specs.Apply.{Rows}
 use Rattle.rows.specs.declared.change.Transaction.{Transaction}
 use Rattle.rows.specs.declared.schema.Table.{Table}
 use Rattle.rows.specs.Fits.{Fits}
-use Rattle.rows.proofs.Lists.{none_some}
 use Rattle.journal.specs.declared.Entry.{Entry}
 use Rattle.journal.specs.Journals.{JournalValue}
-use Rattle.ordered_journals.proofs.Lists.{get_map}
-use Rattle.source_history.specs.World.{World}
+use Rattle.history.specs.Sources.{World}
 use Rattle.world.specs.declared.verdict.Verdict.TheVariants.{DoesNotApply, Sound}
 use Rattle.world.specs.Audit.{all_entries, does_not_apply, first_contents, first_fault, verdict, world_of}
 use Rattle.world.specs.Meaning.{AreJournals}
@@ -96,11 +96,6 @@ one_of e es q t false tied more h = let c = more h in (suc c.0, omega (arith, c.
 one_listed : (es : List Entry) (q : Gtid) (t : Transaction) → at gtid_cmp (map as_pair es) q ≡ Some t → Contains es (record { gtid = q; txn = t })
 one_listed [] q t h = none_some t h
 one_listed (e ∷ es) q t h = one_of e es q t (is_eq (gtid_cmp q e.gtid)) refl (one_listed es q t) h
-
-equal_of : (r : Ordering) → is_eq r ≡ true → r ≡ Equal
-equal_of Less e = cc
-equal_of Equal e = refl
-equal_of Greater e = cc
 
 itself : (g : Gtid) → gtid_cmp g g ≡ Equal
 itself g = equal_of (gtid_cmp g g) (gtid_tied g g ∙ same_itself g)

@@ -1,11 +1,11 @@
 -- What journals bring lies beyond the opening set.
 use Rattle.std.proofs.Common.{◌≡◌, ◌<◌, List, Some, sym, subst}
 use Rattle.std.specs.FinMap as finmap
+use Rattle.lemmas.proofs.Lists.{all_at}
 use Rattle.gtid_text.specs.declared.Gtid.{Gtid}
 use Rattle.gtid_set.specs.Sets.{Gtids}
 use Rattle.rows.specs.declared.change.Transaction.{Transaction}
 use Rattle.journal.specs.Journals.{JournalValue, IsJournal}
-use Rattle.ordered_journals.proofs.Lists.{all_at}
 use Rattle.world.specs.Audit.{all_entries, first_contents}
 use Rattle.world.specs.Meaning.{AreJournals}
 use Rattle.world.proofs.Contents.{entry_at, in_all, contents_entry, contents_outside}

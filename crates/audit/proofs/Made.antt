@@ -4,7 +4,7 @@ use Rattle.std.specs.FinMap as finmap
 use Rattle.std.specs.FinSet as set
 use Rattle.gtid_set.specs.Sets.{Gtids}
 use Rattle.journal.specs.declared.Entry.{Entry}
-use Rattle.source_history.specs.World as history
+use Rattle.history.specs.Sources as history
 use Rattle.world.specs.Audit.{first_contents}
 use Rattle.audit.specs.Contents.{Contents, as_entry, as_pair, beyond, contents_of}
 

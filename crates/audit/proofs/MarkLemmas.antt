@@ -7,6 +7,8 @@ use Rattle.std.specs.FinMap as finmap
 use Rattle.std.specs.FinMap.{get-insert}
 use Rattle.std.proofs.lemmas.Bool.{eqb-true, eq-eqb, or_cases, or_left, or_right, and_from}
 use Rattle.std.proofs.lemmas.Option.{same_Some, slice_get-map}
+use Rattle.lemmas.proofs.Options.{none_some}
+use Rattle.lemmas.proofs.Lists.{get_set_cases, get_set_from}
 use Rattle.gtid_text.specs.declared.Gtid.{Gtid}
 use Rattle.row_images.specs.declared.value.Value.{Value}
 use Rattle.row_images.specs.Images.{AreValues, values_text, words_of}
@@ -19,9 +21,7 @@ use Rattle.rows.specs.WriteSet.{is_among}
 use Rattle.world.specs.Folds.{FirstTouch}
 use Rattle.audit.specs.Gaps.{touch_last, is_own}
 use Rattle.audit.specs.Marks.{AreMarked, TouchesMarks, is_marked, key_mark, owner_by, owner_in}
-use Rattle.audit.specs.declared.owners.Slot.{Slot}
-use Rattle.ordered_journals.proofs.Lists.{get_set_cases, get_set_from}
-use Rattle.rows.proofs.Lists.{none_some}
+use Rattle.audit.specs.declared.owners.MarkSlot.{MarkSlot}
 
 -- ---- the words of a row's text
 
@@ -61,7 +61,7 @@ own_before old new marks source mark owner touched marked was = same_Some owner 
 
 -- ---- slots
 
-module _ (mask : ℕ) (slots : List Slot) (rest : ℕ → Option ℕ) (mark source : ℕ) where
+module _ (mask : ℕ) (slots : List MarkSlot) (rest : ℕ → Option ℕ) (mark source : ℕ) where
   one_marked : (m : ℕ) → is_marked (mark ∷ []) m ≡ true → mark ≡ m
   one_marked m marked = elim (or_cases (nat_eq mark m) false marked) [ inl here ↦ eqb-true mark m here | inr later ↦ absurd (never later) ]
     where
@@ -91,7 +91,7 @@ module _ (mask : ℕ) (slots : List Slot) (rest : ℕ → Option ℕ) (mark sour
       kept = λ m owner was. kept_by m owner (nat_eq mark m) refl was;
     }
 
-  module _ (slot : Slot) (there : slice_get slots (bit_and mark mask) ≡ Some slot) where
+  module _ (slot : MarkSlot) (there : slice_get slots (bit_and mark mask) ≡ Some slot) where
     -- the slot has another mark
     pub passed_other : (slot.owner == 0) ≡ false → (slot.mark == mark) ≡ false → (o : Option ℕ) → owner_by (slice_get slots (bit_and mark mask)) mark o ≡ o
     passed_other taken other o = ap (λ s. owner_by s mark o) there ∙ (ap (λ b. cond b None (cond (slot.mark == mark) (Some slot.owner) o)) taken ∙ ap (λ b. cond b (Some slot.owner) o) other)
@@ -105,10 +105,10 @@ module _ (mask : ℕ) (slots : List Slot) (rest : ℕ → Option ℕ) (mark sour
     }
 
     module _ (free : (slot.owner == 0) ≡ true) (some : (source == 0) ≡ false) where
-      abbrev filled : Slot
+      abbrev filled : MarkSlot
       filled = record { mark = mark; owner = source }
 
-      abbrev more : List Slot
+      abbrev more : List MarkSlot
       more = slice_set slots (bit_and mark mask) filled
 
       filled_owns : owner_by (Some filled) mark (rest mark) ≡ Some source
@@ -128,14 +128,14 @@ module _ (mask : ℕ) (slots : List Slot) (rest : ℕ → Option ℕ) (mark sour
           never : ◌≡◌ {A = Option ℕ} None (Some owner) → ⊥
           never e = cc
 
-      other_slot : (m owner : ℕ) (o : Option Slot) → slice_get slots (bit_and m mask) ≡ o → owner_in mask slots rest m ≡ Some owner → owner_in mask more rest m ≡ Some owner
+      other_slot : (m owner : ℕ) (o : Option MarkSlot) → slice_get slots (bit_and m mask) ≡ o → owner_in mask slots rest m ≡ Some owner → owner_in mask more rest m ≡ Some owner
       other_slot m owner (Some s) at was = elim (get_set_from slots (bit_and mark mask) filled (bit_and m mask) s at) [
         | inl same ↦ ap (λ x. owner_by x m (rest m)) (same ∙ sym at) ∙ was
         | inr here ↦ absurd (free_none m owner here.0 was)
       ]
       other_slot m owner None at was = ap (λ x. owner_by x m (rest m)) (none_there (slice_get more (bit_and m mask)) refl ∙ sym at) ∙ was
         where
-          none_there : (o : Option Slot) → slice_get more (bit_and m mask) ≡ o → slice_get more (bit_and m mask) ≡ None
+          none_there : (o : Option MarkSlot) → slice_get more (bit_and m mask) ≡ o → slice_get more (bit_and m mask) ≡ None
           none_there None is = is
           none_there (Some s) is = elim (get_set_cases slots (bit_and mark mask) filled (bit_and m mask) s is) [
             | inl p ↦ absurd (free_none m owner p.0 was)

@@ -13,16 +13,15 @@ use Rattle.rows.specs.declared.change.Transaction.{Transaction}
 use Rattle.rows.specs.declared.schema.Table.{Table}
 use Rattle.rows.specs.Apply.{Rows}
 use Rattle.journal.specs.Journals.{JournalValue}
-use Rattle.source_history.specs.World.{World, content, is_opened}
-use Rattle.source_history.specs.World as history
-use Rattle.source_history.proofs.Gtids.{number_less}
-use Rattle.source_history.proofs.Entries.{IsAscending, AreFound, rising, found}
-use Rattle.ordered_journals.proofs.Lists.{all_at}
+use Rattle.history.specs.Sources.{World, content, is_opened}
+use Rattle.history.specs.Sources as history
+use Rattle.history.proofs.SourceGtids.{number_less}
+use Rattle.history.proofs.SourceEntries.{IsAscending, AreFound, rising, found}
 use Rattle.world.specs.declared.verdict.Verdict.{Verdict}
 use Rattle.world.specs.declared.verdict.Verdict.TheVariants.{Missing}
 use Rattle.world.specs.Search.{or_next, when, first}
 use Rattle.world.specs.Audit.{all_entries, first_contents, world_of, present, is_recorded_in, is_absent, below, missing}
-use Rattle.world.proofs.Finding.{when_none, first_none, get_range}
+use Rattle.world.proofs.Finding.{when_none, first_none}
 use Rattle.world.proofs.Contents.{contents_entry, entry_content, content_at, some_of}
 use Rattle.world.proofs.OnePass.{source_le}
 use Rattle.journal.specs.declared.Entry.{Entry}
@@ -30,7 +29,8 @@ use Rattle.audit.specs.Contents.{Contents, as_pair, in_order}
 use Rattle.audit.proofs.Made.{pairs_of}
 use Rattle.audit.specs.Missing.{number_before, missing_between, missing_from}
 use Rattle.std.proofs.lemmas.Option.{same_Some}
-use Rattle.rows.proofs.Lists.{none_some}
+use Rattle.lemmas.proofs.Options.{none_some}
+use Rattle.lemmas.proofs.Lists.{all_at, get_range}
 
 -- ---- a search over numbers
 

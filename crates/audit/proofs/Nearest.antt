@@ -4,11 +4,15 @@ use Rattle.std.specs.Prelude.{slice_get, ◌==◌}
 use Rattle.std.specs.List.{list_any}
 use Rattle.std.specs.FinMap as finmap
 use Rattle.std.specs.FinMap.{get-insert, get-empty}
-use Rattle.std.proofs.lemmas.Bool.{eqb-true, cases_lt, or_left, or_right}
+use Rattle.std.proofs.lemmas.Bool.{eqb-true, or_left, or_right}
 use Rattle.std.proofs.lemmas.Option.{same_Some, slice_get_within}
+use Rattle.lemmas.proofs.Tests.{not_both}
+use Rattle.lemmas.proofs.Lists.{get_append_left, get_push, get_push_cases}
+use Rattle.lemmas.proofs.Options.{none_some}
+use Rattle.lemmas.proofs.SameGtid.{same_is_equal, gtid_total}
+use Rattle.lemmas.proofs.Numbers.{lt_unless}
 use Rattle.gtid_text.specs.declared.Gtid.{Gtid}
 use Rattle.gtid_text.specs.Gtids.{gtid_cmp, same_gtid}
-use Rattle.gtid_text.proofs.SameGtid.{same_is_equal, gtid_total}
 use Rattle.gtid_set.proofs.SetLemmas.{gtid_tied}
 use Rattle.rows.specs.declared.change.Key.{Key}
 use Rattle.rows.specs.declared.change.Transaction.{Transaction}
@@ -16,13 +20,10 @@ use Rattle.rows.specs.declared.schema.Table.{Table}
 use Rattle.rows.specs.Order.{key_cmp, key_eq}
 use Rattle.rows.specs.Total.{key_eq_self}
 use Rattle.rows.specs.WriteSet.{write_set, touches, is_among}
-use Rattle.rows.proofs.Lists.{none_some, get_append_left, get_push}
-use Rattle.rows.proofs.Patching.{not_both}
-use Rattle.ordered_journals.proofs.Lists.{get_push_cases}
-use Rattle.source_history.specs.World.{World, content}
-use Rattle.source_history.specs.World as history
-use Rattle.source_history.proofs.Gtids.{number_less}
-use Rattle.source_history.proofs.Entries.{rising}
+use Rattle.history.specs.Sources.{World, content}
+use Rattle.history.specs.Sources as history
+use Rattle.history.proofs.SourceGtids.{number_less}
+use Rattle.history.proofs.SourceEntries.{rising}
 use Rattle.world.specs.Folds.{FirstTouch}
 use Rattle.world.proofs.Contents.{content_at, at_content}
 use Rattle.world.proofs.Meanings.{le_cases}
@@ -196,13 +197,6 @@ module _ (schema : List Table) where
 
 -- ---- in a world
 
--- neither at the same place nor after it
-pub in_front : (a b : ℕ) → (a ≡ b → ⊥) → (b < a → ⊥) → a < b
-in_front a b same more = elim (cases_lt a b) [
-  | inl l ↦ l
-  | inr m ↦ elim (le_cases b a m) [ inl l ↦ absurd (more l) | inr e ↦ absurd (same (sym e)) ]
-]
-
 module _ (world : World) where
   abbrev es0 : List history.Entry
   es0 = finmap.entries world.contents
@@ -210,7 +204,7 @@ module _ (world : World) where
   -- of two of one source the one with the smaller number comes first
   pub place_before : (i j : ℕ) (a b : history.Entry) → slice_get es0 i ≡ Some a → slice_get es0 j ≡ Some b → a.0.source ≡ b.0.source → a.0.number < b.0.number → i < j
   place_before i j a b x y s l =
-      in_front i j
+      lt_unless i j
       (λ same. let n : a.0.number ≡ b.0.number = ap (λ (z : history.Entry). z.0.number) (same_Some a b (sym x ∙ (ap (slice_get es0) same ∙ y))) in omega arith)
       (λ behind. let n = number_less b.0 a.0 (rises es0 j i b a (rising world) y x behind) (sym s) in omega arith)
 

@@ -14,17 +14,17 @@ use Rattle.rows.specs.declared.schema.Table.{Table}
 use Rattle.rows.specs.Order.{key_eq}
 use Rattle.rows.specs.Total.{key_total, key_eq_same}
 use Rattle.rows.specs.WriteSet.{write_set, touches, is_among}
-use Rattle.source_history.specs.World as history
-use Rattle.source_history.proofs.Gtids.{number_less}
-use Rattle.source_history.proofs.Entries.{IsAscending}
-use Rattle.ordered_journals.proofs.Lists.{all_at, get_push_cases}
+use Rattle.history.specs.Sources as history
+use Rattle.history.proofs.SourceGtids.{number_less}
+use Rattle.history.proofs.SourceEntries.{IsAscending}
 use Rattle.world.specs.Folds.{FirstTouch}
 use Rattle.world.proofs.OnePass.{source_le}
 use Rattle.audit.specs.Gaps.{touch_last, of_source, with_some, last_of_keys, Needs, needs_over}
 use Rattle.std.proofs.lemmas.Option.{same_Some, slice_get_within}
-use Rattle.gtid_text.proofs.SameGtid.{same_itself, same_is_equal, gtid_total}
-use Rattle.rows.proofs.Patching.{not_both}
-use Rattle.rows.proofs.Lists.{none_some, get_append_left, get_push}
+use Rattle.lemmas.proofs.Options.{none_some}
+use Rattle.lemmas.proofs.Tests.{not_both}
+use Rattle.lemmas.proofs.SameGtid.{same_itself, same_is_equal, gtid_total}
+use Rattle.lemmas.proofs.Lists.{all_at, get_push_cases, get_append_left, get_push}
 use Rattle.world.proofs.Touching.{rising_front}
 
 -- ---- places in an ascending list

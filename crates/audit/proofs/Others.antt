@@ -8,6 +8,9 @@ use Rattle.std.specs.declared.cmp.Ordering.TheVariants.{Less}
 use Rattle.std.proofs.lemmas.Bool.{or_cases, or_left, or_right}
 use Rattle.std.proofs.lemmas.Option.{same_Some}
 use Rattle.std.proofs.lemmas.List.Folds.{list_any-append}
+use Rattle.lemmas.proofs.Numbers.{lt_of_test, below_test}
+use Rattle.lemmas.proofs.Options.{none_some}
+use Rattle.lemmas.proofs.Lists.{all_append, get_append_left, all_at, get_push_cases}
 use Rattle.gtid_text.specs.declared.Gtid.{Gtid}
 use Rattle.gtid_text.specs.Gtids.{gtid_cmp}
 use Rattle.rows.specs.declared.change.Key.{Key}
@@ -15,12 +18,10 @@ use Rattle.rows.specs.declared.schema.Table.{Table}
 use Rattle.rows.specs.Order.{key_cmp, key_eq}
 use Rattle.rows.specs.Total.{key_total, key_eq_same, key_eq_self}
 use Rattle.rows.specs.WriteSet.{write_set, touches, is_among}
-use Rattle.rows.proofs.Lists.{all_append, get_append_left, none_some}
-use Rattle.source_history.specs.World.{World, content}
-use Rattle.source_history.specs.World as history
-use Rattle.source_history.proofs.Gtids.{number_less}
-use Rattle.source_history.proofs.Entries.{IsAscending, rising}
-use Rattle.ordered_journals.proofs.Lists.{all_at, get_push_cases}
+use Rattle.history.specs.Sources.{World, content}
+use Rattle.history.specs.Sources as history
+use Rattle.history.proofs.SourceGtids.{number_less}
+use Rattle.history.proofs.SourceEntries.{IsAscending, rising}
 use Rattle.world.specs.declared.verdict.Verdict.{Verdict}
 use Rattle.world.specs.declared.verdict.Verdict.TheVariants.{Shared}
 use Rattle.world.specs.Search.{or_next, when}
@@ -28,9 +29,8 @@ use Rattle.world.specs.Cases.{IsShared}
 use Rattle.world.specs.Folds.{FirstTouch, touched_by, shares_with}
 use Rattle.world.proofs.Contents.{content_at, at_content}
 use Rattle.world.proofs.OnePass.{rising_parts, source_le}
-use Rattle.world.proofs.Gaps.{number_lt}
-use Rattle.world.proofs.Finding.{below_test}
 use Rattle.audit.specs.Others.{IsPairNamed, is_of_key, is_again, AreOnce, AreOtherKeys, pair_of_key, with_pair, with_name, pairs_of_keys, named_by_keys, pairs_from, key_of_verdict, other_pairs}
+use Rattle.rows.specs.Conflicts.{conflict_at_both, conflict_at_touched}
 
 -- ---- keys that were touched
 
@@ -88,7 +88,7 @@ says_by : (h : Gtid) (key : Key) (named : Bool) (o : Option Gtid) (v : Verdict) 
     → (named ≡ false) × (g : Gtid) × (o ≡ Some g) × (g.source < h.source) × (v ≡ Shared g h key)
 says_by h key true o v e = none_some v e
 says_by h key false None v e = none_some v e
-says_by h key false (Some g) v e = let p = smaller (nat_lt g.source h.source) e in (refl, g, refl, number_lt g.source h.source p.0, p.1)
+says_by h key false (Some g) v e = let p = smaller (nat_lt g.source h.source) e in (refl, g, refl, lt_of_test g.source h.source p.0, p.1)
   where
     smaller : (b : Bool) → when b (Shared g h key) ≡ Some v → (b ≡ true) × (v ≡ Shared g h key)
     smaller true e = (refl, sym (same_Some (Shared g h key) v e))
@@ -307,10 +307,6 @@ or_false : (a b : Bool) → (a || b) ≡ false → b ≡ false
 or_false true b e = cc
 or_false false b e = e
 
-not_here : (a b : Bool) → (a || b) ≡ false → a ≡ false
-not_here true b e = cc
-not_here false b e = refl
-
 name_kept : (o : Option Verdict) (h : Gtid) (key k : Key) (named : FirstTouch) → has (with_name o h key named) k ≡ false → has named k ≡ false
 name_kept None h key k named e = e
 name_kept (Some v) h key k named e = or_false (key_eq k key) (has named k) (sym (name_one named key k h) ∙ e)
@@ -406,7 +402,8 @@ module _ (world : World) where
           let q = content_at world b s.u s.second in
           let x = stands_before a p.0 (a, s.t) p.1 (under_on a b h.0 (inl s.smaller) l) in
           let y = stands_before b q.0 (b, s.u) q.1 l in
-          are x.0 y.0 (a, s.t) (b, s.u) k x.1 y.1 s.smaller s.touches_first s.touches_second
+          let both = conflict_at_both world.schema s.t s.u k s.conflict in
+          are x.0 y.0 (a, s.t) (b, s.u) k x.1 y.1 s.smaller both.0 both.1
 
       least : (v : Verdict) → IsSaid h.0 seen named (write_set world.schema h.1) v → IsPairNamed world v
       least v s =
@@ -420,14 +417,13 @@ module _ (world : World) where
               first = subst (λ (x : Gtid). content world x ≡ Some e.1) r.3 (at_content world r.0 e (stands_at r.0 e r.2));
               second = at_content world (length before) h stands_here;
               smaller = s.less;
-              touches_first = r.4;
-              touches_second = s.among;
+              conflict = conflict_at_touched world.schema e.1 h.1 s.key s.among ∙ r.4;
             };
             second = λ a b p l. two_ways (has named s.key) (no_lesser a b s.key p (under b h.0 l)) s.new;
             first = λ a b p l.
                 let q = content_at world a p.t p.first in
                 let y = stands_before a q.0 (a, p.t) q.1 (under_on a s.g h.0 (under a s.g l) below_h) in
-                let z = is.all y.0 (a, p.t) s.key y.1 p.touches_first in
+                let z = is.all y.0 (a, p.t) s.key y.1 (conflict_at_both world.schema p.t p.u s.key p.conflict).0 in
                 let same : z.0 ≡ s.g = same_Some z.0 s.g (sym z.1 ∙ s.first) in
                 never_under s.g a (subst (λ (x : Gtid). Upto x a) same z.2) (under a s.g l);
           })
@@ -535,8 +531,9 @@ others_named world v =
       every = λ a b k s.
           let p = content_at world a s.t s.first in
           let q = content_at world b s.u s.second in
+          let both = conflict_at_both world.schema s.t s.u k s.conflict in
           ap (λ c. c || list_any (is_of_key k) (other_pairs world v)) (sym (named_at_first world v k))
           ∙ sym (names_all world.schema finmap.empty (key_of_verdict v) (finmap.entries world.contents) k)
-          ∙ passed.1 p.0 q.0 (a, s.t) (b, s.u) k p.1 q.1 s.smaller s.touches_first s.touches_second;
+          ∙ passed.1 p.0 q.0 (a, s.t) (b, s.u) k p.1 q.1 s.smaller both.0 both.1;
       once = (not_of_verdict v (other_pairs world v) once.1, once.0);
     }

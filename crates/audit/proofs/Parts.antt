@@ -9,13 +9,13 @@ use Rattle.std.specs.declared.cmp.Ordering.TheVariants.{Less, Equal}
 use Rattle.std.proofs.lemmas.Bool.{and_parts, or_left, false_from_ne_true, not-true}
 use Rattle.std.proofs.lemmas.Bool.Decides.{nat_tests}
 use Rattle.std.proofs.lemmas.List.{length-map}
+use Rattle.lemmas.proofs.SameGtid.{gtid_total, same_is_equal}
 use Rattle.gtid_text.specs.declared.Gtid.{Gtid}
 use Rattle.gtid_text.specs.Gtids.{gtid_cmp, same_gtid}
 use Rattle.world.specs.declared.verdict.Verdict.{Verdict}
 use Rattle.world.specs.declared.verdict.Verdict.TheVariants.{Missing}
 use Rattle.world.specs.Cases.{IsMissing}
 use Rattle.gtid_set.proofs.SetLemmas.{same_members}
-use Rattle.gtid_text.proofs.SameGtid.{gtid_total, same_is_equal}
 use Rattle.gtid_set.specs.declared.fault.SetFault.{SetFault}
 use Rattle.gtid_set.specs.declared.fault.SetFault.TheVariants.{Memory, PoolFull, SourcesFull}
 use Rattle.gtid_set.specs.Edges.{has_before}
@@ -26,8 +26,8 @@ use Rattle.gtid_set.proofs.FaultLemmas.{fault_map}
 use Rattle.gtid_set.proofs.SetSources.{fewer_sources}
 use Rattle.journal.specs.declared.Entry.{Entry}
 use Rattle.journal.specs.Journals.{JournalValue}
-use Rattle.source_history.specs.World.{World}
-use Rattle.source_history.specs.World as history
+use Rattle.history.specs.Sources.{World}
+use Rattle.history.specs.Sources as history
 use Rattle.world.specs.Audit.{all_entries, first_contents, present, verdict}
 use Rattle.world.proofs.Leasts.{missing_is_least}
 use Rattle.audit.specs.Contents.{Contents, as_pair, in_order}

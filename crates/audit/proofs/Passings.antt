@@ -9,27 +9,28 @@ use Rattle.std.specs.declared.cmp.Ordering.TheVariants.{Less}
 use Rattle.std.proofs.lemmas.Bool.{eqb-true, eq-eqb, and_parts, and_from, or_cases, or_left, or_right, cases_Bool, false_from_ne_true, not-true, not_from_false}
 use Rattle.std.proofs.lemmas.Bool.Decides.{nat_tests}
 use Rattle.std.proofs.lemmas.Option.{same_Some}
+use Rattle.lemmas.proofs.Numbers.{below_test, lt_of_test}
+use Rattle.lemmas.proofs.Lists.{all_at}
+use Rattle.lemmas.proofs.Options.{none_some}
+use Rattle.lemmas.proofs.SameGtid.{gtid_total}
+use Rattle.lemmas.proofs.Tests.{or_flat as turn, or_false}
 use Rattle.gtid_text.specs.declared.Gtid.{Gtid}
 use Rattle.gtid_text.specs.Gtids.{gtid_cmp, same_gtid}
-use Rattle.gtid_text.proofs.SameGtid.{gtid_total}
 use Rattle.gtid_set.proofs.SetLemmas.{contains-interval}
-use Rattle.ordered_journals.proofs.Covering.{in_insert}
+use Rattle.history.proofs.Covering.{in_insert}
 use Rattle.world.specs.declared.verdict.Verdict.{Verdict}
 use Rattle.world.specs.declared.verdict.Verdict.TheVariants.{Purged, Missing}
 use Rattle.gtid_set.specs.Sets.{Gtids, interval}
 use Rattle.rows.specs.declared.change.Transaction.{Transaction}
-use Rattle.rows.proofs.Lists.{none_some}
 use Rattle.journal.specs.Journals.{JournalValue}
-use Rattle.source_history.specs.World.{World, content, is_opened}
-use Rattle.source_history.specs.World as history
-use Rattle.source_history.proofs.Gtids.{number_less}
-use Rattle.source_history.proofs.Entries.{IsAscending, rising}
-use Rattle.ordered_journals.proofs.Lists.{all_at}
+use Rattle.history.specs.Sources.{World, content, is_opened}
+use Rattle.history.specs.Sources as history
+use Rattle.history.proofs.SourceGtids.{number_less}
+use Rattle.history.proofs.SourceEntries.{IsAscending, rising}
 use Rattle.world.specs.Search.{when}
 use Rattle.world.specs.Audit.{all_entries, world_of, present, is_recorded_in}
 use Rattle.world.specs.Cases.{IsMissing}
-use Rattle.world.proofs.Finding.{below_test, when_some}
-use Rattle.world.proofs.Gaps.{number_lt}
+use Rattle.world.proofs.Finding.{when_some}
 use Rattle.world.proofs.Contents.{contents_entry, contents_outside, entry_content, content_at, at_content, some_of}
 use Rattle.world.proofs.OnePass.{source_le}
 use Rattle.audit.specs.Missing.{number_before}
@@ -70,7 +71,7 @@ in_gap : (last : Option Gtid) (e g : Gtid) → lies_between e.source (number_bef
 in_gap last e g h =
     let p = and_parts (eqb g.source e.source) _ h in
     let q = and_parts (nat_lt (number_before last e.source) g.number) (nat_lt g.number e.number) p.1 in
-    record { source = eqb-true g.source e.source p.0; low = number_lt (number_before last e.source) g.number q.0; high = number_lt g.number e.number q.1 }
+    record { source = eqb-true g.source e.source p.0; low = lt_of_test (number_before last e.source) g.number q.0; high = lt_of_test g.number e.number q.1 }
 
 gap_in : (last : Option Gtid) (e g : Gtid) → IsInGap last e g → lies_between e.source (number_before last e.source) e.number g ≡ true
 gap_in last e g h =
@@ -287,16 +288,8 @@ covers_same true a m n = ap (λ b. b && nat_le m (n - 1)) (low_same a m) ∙ by 
     by true e = high_same a m n e
     by false e = refl
 
-turn : (a b c : Bool) → ((a || b) || c) ≡ (a || (b || c))
-turn true b c = refl
-turn false b c = refl
-
-no_more : (a : Bool) → a ≡ (a || false)
-no_more true = refl
-no_more false = refl
-
 pub in_skips : (skipped : Gtids) (last : Option Gtid) (es : List history.Entry) (g : Gtid) → set.contains (skips_from skipped last es) g ≡ (set.contains skipped g || is_skipped last es g)
-in_skips skipped last [] g = no_more (set.contains skipped g)
+in_skips skipped last [] g = or_false (set.contains skipped g)
 in_skips skipped last (e ∷ es) g =
     let lo = number_before last e.0.source in
     in_skips (set.union skipped (interval e.0.source (lo + 1) (e.0.number - 1))) (Some e.0) es g
@@ -318,7 +311,7 @@ in_set_missing world journals g h =
     skipped_missing world journals g (not-true (is_opened world g) q.1) q.0
 
 pub in_one : (g h : Gtid) → set.contains {R = gtid_cmp} (set.insert set.empty g) h ≡ same_gtid h g
-in_one g h = in_insert (set.empty {R = gtid_cmp}) g h ∙ ap (λ b. same_gtid h g || b) (contains-empty gtid_cmp h) ∙ sym (no_more (same_gtid h g))
+in_one g h = in_insert (set.empty {R = gtid_cmp}) g h ∙ ap (λ b. same_gtid h g || b) (contains-empty gtid_cmp h) ∙ sym (or_false (same_gtid h g))
 
 and_not : (a : Bool) → a ≡ (a && not false)
 and_not true = refl

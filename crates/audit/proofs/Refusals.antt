@@ -7,6 +7,9 @@ use Rattle.std.specs.FinMap as finmap
 use Rattle.std.specs.FinSet as set
 use Rattle.std.specs.declared.cmp.Ordering.TheVariants.{Less}
 use Rattle.std.proofs.lemmas.Bool.{eqb-true, eq-eqb, false_from_ne_true, or_left, or_right}
+use Rattle.lemmas.proofs.Tests.{not_both}
+use Rattle.lemmas.proofs.Options.{none_some}
+use Rattle.lemmas.proofs.Numbers.{lt_eq_gt as three, ge_of_test, self_le, less_le, below_test, lt_of_test}
 use Rattle.gtid_text.specs.declared.Gtid.{Gtid}
 use Rattle.gtid_text.specs.Gtids.{gtid_cmp}
 use Rattle.rows.specs.declared.change.Key.{Key}
@@ -14,22 +17,20 @@ use Rattle.rows.specs.declared.change.RowFault.{RowFault}
 use Rattle.rows.specs.declared.schema.Table.{Table}
 use Rattle.rows.specs.Apply.{Rows, ◌>>=◌, apply}
 use Rattle.rows.specs.WriteSet.{write_set, touches, Alike}
-use Rattle.rows.proofs.Lists.{none_some}
 use Rattle.rows.proofs.Local.{bind_ok, apply_alike}
-use Rattle.rows.proofs.Patching.{not_both, fits_err}
+use Rattle.rows.proofs.Patching.{fits_err}
 use Rattle.journal.specs.Journals.{JournalValue}
-use Rattle.ordered_history.proofs.Closing.{is_ok_of}
-use Rattle.ordered_history.proofs.Placing.{all_map, chosen_applies}
-use Rattle.source_history.specs.World.{World, content, of_source, entries_in, apply_all, AreKeysSound}
-use Rattle.source_history.specs.World as history
-use Rattle.source_history.proofs.Alone.{source_closed}
-use Rattle.source_history.proofs.Entries.{IsAscending, AreFound, rising, found, apart_sources}
+use Rattle.history.proofs.Closing.{is_ok_of}
+use Rattle.history.proofs.Placing.{all_map, chosen_applies}
+use Rattle.history.specs.Sources.{World, content, of_source, entries_in, apply_all, AreKeysSound}
+use Rattle.history.specs.Sources as history
+use Rattle.history.proofs.Alone.{source_closed}
+use Rattle.history.proofs.SourceEntries.{IsAscending, AreFound, rising, found, apart_sources}
 use Rattle.world.specs.declared.verdict.Verdict.{Verdict}
 use Rattle.world.specs.declared.verdict.Verdict.TheVariants.{Unequal, Purged, Missing, Shared, NotClosed, DoesNotApply, Sound}
 use Rattle.world.specs.Search.{or_next}
 use Rattle.world.specs.Audit.{unequal, purged, present, below, missing, shared, not_closed, fault_after, first_fault, does_not_apply, found_in_keys, verdict}
-use Rattle.world.proofs.Finding.{next_none, below_test}
-use Rattle.world.proofs.Gaps.{number_lt}
+use Rattle.world.proofs.Finding.{next_none}
 use Rattle.world.proofs.Leasts.{first_source_fails}
 use Rattle.world.proofs.OnePass.{agree_after, rising_parts, source_le}
 use Rattle.world.proofs.Saying.{fault_free}
@@ -99,23 +100,11 @@ smaller_not_same : (s t u : ℕ) → s < t → (t < u) ⊎ (t ≡ u) → s ≡ u
 smaller_not_same s t u l (inl m) e = omega arith
 smaller_not_same s t u l (inr m) e = omega arith
 
-three : (a b : ℕ) → (a < b) ⊎ ((a ≡ b) ⊎ (b < a))
-three a b = grind arith
-
-not_above : (a b : ℕ) → nat_lt a b ≡ false → b ≤ a
-not_above a b e = grind arith
-
 less_both : (a b c : ℕ) → a < b → b < c → a < c
 less_both a b c x y = omega arith
 
-self_le : (a : ℕ) → a ≤ a
-self_le a = omega arith
-
-less_le : (a b : ℕ) → a < b → a ≤ b
-less_le a b l = omega arith
-
 greater_more : (v : Verdict) (a b : ℕ) → a < b → is_greater_refusal b v ≡ true → is_greater_refusal a v ≡ true
-greater_more (DoesNotApply g fault) a b l h = below_test a g.source (less_both a b g.source l (number_lt b g.source h))
+greater_more (DoesNotApply g fault) a b l h = below_test a g.source (less_both a b g.source l (lt_of_test b g.source h))
 greater_more _ a b l h = cc
 
 all_greater : (vs : List Verdict) (a b : ℕ) → a < b → AllByRecursion (λ v. is_greater_refusal b v ≡ true) vs → AllByRecursion (λ v. is_greater_refusal a v ≡ true) vs
@@ -239,8 +228,8 @@ module _ (world : World) (sound : AreKeysSound world) where
 
     step : (b : Bool) → nat_lt passed e.0.source ≡ b
         → AreRefused passed (cond b (refused_or e (apply world.schema e.1 rows) (refused_from world.schema passed rest) (refused_from world.schema e.0.source rest rows)) (refused_from world.schema passed rest rows))
-    step true t = tried (apply world.schema e.1 rows) (number_lt passed e.0.source t) refl
-    step false t = more passed rows (goes_over before rest e passed rows parts a passed (self_le passed) (not_above passed e.0.source t))
+    step true t = tried (apply world.schema e.1 rows) (lt_of_test passed e.0.source t) refl
+    step false t = more passed rows (goes_over before rest e passed rows parts a passed (self_le passed) (ge_of_test passed e.0.source t))
 
   all_refused : (rest before : List history.Entry) (passed : ℕ) (rows : Rows) → es0 ≡ before ++ rest → Applied before passed rows → AreRefused passed (refused_from world.schema passed rest rows)
   all_refused [] before passed rows parts a = record {

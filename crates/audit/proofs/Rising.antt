@@ -8,24 +8,23 @@ use Rattle.std.proofs.lemmas.Bool.{eqb-true, or_cases, or_left, or_right, and_pa
 use Rattle.gtid_text.specs.declared.Gtid.{Gtid}
 use Rattle.gtid_set.specs.Sets.{Gtids, gtid}
 use Rattle.rows.specs.declared.change.Transaction.{Transaction}
-use Rattle.rows.specs.WriteSet.{shares_key}
+use Rattle.rows.specs.Conflicts.{conflicts}
 use Rattle.journal.specs.declared.Entry.{Entry}
 use Rattle.journal.specs.Journals.{JournalValue}
-use Rattle.source_history.specs.World.{World, content, is_opened}
-use Rattle.source_history.specs.World as history
-use Rattle.ordered_journals.proofs.Lists.{get_take, all_at}
+use Rattle.history.specs.Sources.{World, content, is_opened}
+use Rattle.history.specs.Sources as history
 use Rattle.world.specs.declared.verdict.Verdict.TheVariants.{Missing, NotClosed}
 use Rattle.world.specs.Search.{or_next}
 use Rattle.world.specs.Audit.{all_entries, world_of, is_recorded_in, is_recorded_before, is_absent, below, present, unequal, purged, missing, found_in_gtids, is_left_out, shared, not_closed}
 use Rattle.world.specs.Cases.{IsMissing}
-use Rattle.world.proofs.Finding.{none_next, none_when, none_first, taken, range_above}
+use Rattle.world.proofs.Finding.{none_next, none_when, none_first}
 use Rattle.world.proofs.Contents.{entry_at, entry_from, in_all, of_all, at_content, contents_entry}
 use Rattle.audit.specs.Ordered.{is_there, AreBelow, IsInOrder, AreInOrder, AreTops, IsTopOrNext}
 use Rattle.audit.specs.Worlds.{LieBeyond}
 use Rattle.std.proofs.lemmas.Option.{same_Some}
-use Rattle.rows.proofs.Patching.{not_both}
-use Rattle.rows.proofs.Lists.{lt_cases, get_map_cases}
-use Rattle.world.proofs.Gaps.{number_lt}
+use Rattle.lemmas.proofs.Numbers.{lt_cases, lt_of_test}
+use Rattle.lemmas.proofs.Tests.{not_both}
+use Rattle.lemmas.proofs.Lists.{get_take, all_at, taken, range_above, get_map_cases}
 
 -- ---- one entry more
 
@@ -105,9 +104,9 @@ module _ (world : World) (beyond : LieBeyond world.opening_set world.contents) (
       let a = and_parts (not (is_opened world e.gtid)) _ t in
       let b = and_parts (h.0.source == e.gtid.source) _ a.1 in
       let c = and_parts (nat_lt h.0.number e.gtid.number) _ b.1 in
-      let d = and_parts (shares_key world.schema h.1 e.txn) (not (is_recorded_before j place h.0)) c.1 in
+      let d = and_parts (conflicts world.schema h.1 e.txn) (not (is_recorded_before j place h.0)) c.1 in
       let at = at_content world l h hl in
-      let there = ordered place e he h.0.number (beyond.from_one h.0 h.1 at) (number_lt h.0.number e.gtid.number c.0) in
+      let there = ordered place e he h.0.number (beyond.from_one h.0 h.1 at) (lt_of_test h.0.number e.gtid.number c.0) in
       let is : gtid e.gtid.source h.0.number ≡ h.0 = λ k. record { source = sym (eqb-true h.0.source e.gtid.source b.0) k; number = h.0.number } in
       stands h.0 h.1 at (subst (λ (g : Gtid). is_there world.opening_set (take place j.entries) g ≡ true) is there) (not-true (is_recorded_before j place h.0) d.1))
     where

@@ -5,7 +5,7 @@ use Rattle.std.specs.FinMap as finmap
 use Rattle.std.specs.FinSet as set
 use Rattle.gtid_text.specs.declared.Gtid.{Gtid}
 use Rattle.rows.specs.declared.change.Transaction.{Transaction}
-use Rattle.source_history.specs.World.{World, content, HasNumber, AreKeysSound}
+use Rattle.history.specs.Sources.{World, content, HasNumber, AreKeysSound}
 use Rattle.world.specs.Audit.{shared}
 use Rattle.world.proofs.Contents.{some_of}
 use Rattle.world.proofs.Meanings.{le_cases, sources_apart}

@@ -1,5 +1,5 @@
 -- The entries of a list as a finite map.
-use Rattle.std.proofs.Common.{◌≡◌, T, Bool, true, false, ◌||◌, map, subst, cond, List, [], ◌∷◌, Option, Some, refl, sym, ap, ◌∙◌}
+use Rattle.std.proofs.Common.{◌≡◌, T, true, ◌||◌, map, subst, cond, List, [], ◌∷◌, Option, Some, refl, sym, ap, ◌∙◌}
 use Rattle.std.specs.FinMap.{IsAntisymmetric, same_map, find, get, insert, entries, entries_sorted, get-entries, from_entries, get-from_entries, get-insert}
 use Rattle.std.specs.FinMap.Entries.{below_all, is_sorted, same_entries}
 use Rattle.std.specs.FinSet.{from_list, same_set, contains-from_list, contains-insert, insert as add}
@@ -12,6 +12,7 @@ use Rattle.std.specs.declared.cmp.Ordering.TheVariants.{Less}
 use Rattle.std.specs.Map.{lookup}
 use Rattle.std.specs.BTreeMap.{is_at}
 use Rattle.std.proofs.lemmas.Cmp.{eq_by_cmp_equiv}
+use Rattle.lemmas.proofs.Tests.{cond_or}
 use Rattle.rows.proofs.Stored.{both}
 
 module _ {K X : Type 0} (R : K → K → Ordering) where
@@ -48,13 +49,9 @@ module _ {K X : Type 0} (R : K → K → Ordering) where
           same_entries R total exact (entries (from_entries es)) es (entries_sorted (from_entries es)) (is_ordered es h)
           (λ q. sym (get-entries (from_entries es) q) ∙ get-from_entries total es q)
 
-cond_true : (p q : Bool) → cond p true q ≡ (p || q)
-cond_true true q = refl
-cond_true false q = refl
-
 -- the keys of a list as a finite set
 pub one_key : {K : Type 0} (R : K → K → Ordering) → IsTotalOrder R → IsAntisymmetric R → (ks js : List K) (k : K)
     → ((q : K) → list_any (is_at (R q)) js ≡ cond (is_at (R k) q) true (list_any (is_at (R q)) ks)) → from_list {R = R} js ≡ add (from_list ks) k
 one_key R total exact ks js k h = same_set total exact _ _ (λ q.
-    contains-from_list total js q ∙ h q ∙ cond_true (is_at (R k) q) (list_any (is_at (R q)) ks)
+    contains-from_list total js q ∙ h q ∙ cond_or (is_at (R k) q) (list_any (is_at (R q)) ks)
     ∙ (λ i. (eq_by_cmp_equiv total).symm k q i || sym (contains-from_list total ks q) i) ∙ sym (contains-insert total (from_list ks) k q))

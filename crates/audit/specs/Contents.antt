@@ -19,8 +19,8 @@ use Rattle.rows.specs.Order.{key_cmp}
 use Rattle.rows.specs.Database.{table_code}
 use Rattle.rows.specs.Fits.{table_of}
 use Rattle.journal.specs.declared.Entry.{Entry}
-use Rattle.source_history.specs.World.{World}
-use Rattle.source_history.specs.World as history
+use Rattle.history.specs.Sources.{World}
+use Rattle.history.specs.Sources as history
 
 -- from each GTID to its transaction
 abbrev pub Contents : Type 0

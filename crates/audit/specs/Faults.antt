@@ -13,7 +13,7 @@ pub record LacksMany (opened : Gtids) (journals : List JournalValue) : Type 0 wh
   pub at : slice_get journals place ≡ Some journal
   pub many : HasManyIntervals (set.difference journal.previous opened)
 
--- memory was refused, or the set that the verdict would name has too many intervals
+-- out of memory, or the set that the verdict would name has too many intervals
 abbrev pub IsAuditFault : Gtids → List JournalValue → SetFault → Type 0
 IsAuditFault opened journals f = IsMemoryOr ⊥ (LacksMany opened journals) f
 
@@ -22,6 +22,6 @@ abbrev pub intervals_of : Gtids → List JournalValue → ℕ
 intervals_of opened [] = interval_count opened
 intervals_of opened (j ∷ js) = (interval_count j.previous + length j.entries) + intervals_of opened js
 
--- memory was refused, or these GTIDs have too many sources, or so many intervals are too many
+-- out of memory, or these GTIDs have too many sources, or this many intervals are too many
 abbrev pub IsFaultWithin : Gtids → ℕ → SetFault → Type 0
 IsFaultWithin gtids intervals f = IsMemoryOr (HasManySources gtids) (most_intervals < intervals) f

@@ -1,5 +1,6 @@
 -- What journals bring first, as a list.
-use Rattle.std.specs.Prelude.{◌≡◌, List, None, true}
+use Rattle.std.specs.Prelude.{◌≡◌, List, map, None, true}
+use Rattle.std.specs.FinMap as finmap
 use Rattle.std.specs.List.{list_all}
 use Rattle.std.specs.FinSet as set
 use Rattle.gtid_set.specs.Sets.{Gtids}
@@ -9,7 +10,8 @@ use Rattle.journal.specs.declared.Entry.{Entry}
 use Rattle.journal.specs.Journals.{JournalValue}
 use Rattle.world.specs.declared.verdict.Verdict.TheVariants.{Sound}
 use Rattle.world.specs.Audit.{all_entries, first_contents, shared, verdict_of_keys, world_of}
-use Rattle.audit.specs.Contents.{in_order}
+use Rattle.world.specs.Folds.{shared_from}
+use Rattle.audit.specs.Contents.{in_order, as_pair}
 use Rattle.audit.specs.Ordered.{AreInOrder}
 
 -- These are all that the world of journals has, in the order of GTIDs; and the journals' keys are sound, whatever the tables, unless two
@@ -26,3 +28,7 @@ pub record BeginInOrder (opened : Gtids) (journals : List JournalValue) : Type 0
 -- these are the firsts of journals, if those begin in order
 pub record AreFirstsIf (opened : Gtids) (journals : List JournalValue) (es : List Entry) : Type 0 where
   pub firsts : BeginInOrder opened journals → AreFirsts opened journals es
+
+-- no two sources touch one key of these
+abbrev pub HaveNoShared : List Table → List Entry → Type 0
+HaveNoShared schema entries = shared_from schema finmap.empty (map as_pair entries) ≡ None

@@ -10,11 +10,12 @@ use Rattle.gtid_text.specs.Gtids.{gtid_cmp}
 use Rattle.gtid_set.specs.Sets.{Gtids, gtid_code}
 use Rattle.rows.specs.declared.change.Key.{Key}
 use Rattle.rows.specs.declared.schema.Table.{Table}
-use Rattle.rows.specs.WriteSet.{write_set, shares_key}
+use Rattle.rows.specs.WriteSet.{write_set}
+use Rattle.rows.specs.Conflicts.{conflicts}
 use Rattle.journal.specs.declared.Entry.{Entry}
 use Rattle.journal.specs.Journals.{JournalValue}
-use Rattle.source_history.specs.World.{World, is_opened}
-use Rattle.source_history.specs.World as history
+use Rattle.history.specs.Sources.{World, is_opened}
+use Rattle.history.specs.Sources as history
 use Rattle.world.specs.declared.verdict.Verdict.{Verdict}
 use Rattle.world.specs.declared.verdict.Verdict.TheVariants.{NotClosed}
 use Rattle.world.specs.Search.{or_next, when, first}
@@ -75,13 +76,13 @@ lacks needs stand g = option_map_or (λ gs. list_any (λ h. not (stand h)) gs) (
 -- h has a smaller number of the same source and a common key, and is absent
 abbrev pub is_left_by : World → (Gtid → Bool) → Entry → history.Entry → Bool
 is_left_by world stand e h =
-    not (is_opened world e.gtid) && (h.0.source == e.gtid.source && (nat_lt h.0.number e.gtid.number && (shares_key world.schema h.1 e.txn && not (stand h.0))))
+    not (is_opened world e.gtid) && (h.0.source == e.gtid.source && (nat_lt h.0.number e.gtid.number && (conflicts world.schema h.1 e.txn && not (stand h.0))))
 
 -- the least such
 abbrev pub least_left_by : World → (Gtid → Bool) → Entry → Option Verdict
 least_left_by world stand e = first (λ (h : history.Entry). when (is_left_by world stand e h) (NotClosed e.gtid h.0)) (finmap.entries world.contents)
 
--- where an entry lacks something, the least
+-- the least that an entry lacks, if it lacks something
 abbrev pub gap_at : World → Needs → (Gtid → Bool) → Entry → Option Verdict
 gap_at world needs stand e = if not (is_opened world e.gtid) && lacks needs stand e.gtid then least_left_by world stand e else None
 

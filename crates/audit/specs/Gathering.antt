@@ -46,7 +46,7 @@ pub record IsRunAt (runs : List Run) (source : ℕ) (place : ℕ) : Type 0 where
 abbrev pub HasNoRun : List Run → ℕ → Type 0
 HasNoRun runs source = (place : ℕ) (run : Run) → slice_get runs place ≡ Some run → run.source ≡ source → ⊥
 
--- an entry was put behind the run at a place
+-- an entry was appended to the run at a place
 pub record IsPut (old new : List Run) (place : ℕ) (e : Entry) : Type 0 where
   pub run : Run
   pub there : slice_get old place ≡ Some run

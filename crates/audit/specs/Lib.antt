@@ -13,3 +13,6 @@ pub mod Marks
 pub mod Owned
 pub mod Gathering
 pub mod Firsts
+pub mod Chains
+pub mod Joined
+pub mod Applying

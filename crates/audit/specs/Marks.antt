@@ -8,8 +8,8 @@ use Rattle.indexmap.specs.IndexMap.{get}
 use Rattle.row_images.specs.Values.{value_text}
 use Rattle.rows.specs.declared.change.Key.{Key}
 use Rattle.world.specs.Folds.{FirstTouch}
-use Rattle.audit.specs.declared.owners.Owners.{Owners}
-use Rattle.audit.specs.declared.owners.Slot.{Slot}
+use Rattle.audit.specs.declared.owners.MarkOwners.{MarkOwners}
+use Rattle.audit.specs.declared.owners.MarkSlot.{MarkSlot}
 
 -- the table's name, the index and the words of the values are hashed
 abbrev pub key_mark : Key → ℕ
@@ -23,15 +23,15 @@ pub record TouchesMarks (old : ℕ → Option ℕ) (marks : List ℕ) (source : 
   pub now : (mark : ℕ) → is_marked marks mark ≡ true → new mark ≡ Some source
   pub kept : (mark owner : ℕ) → old mark ≡ Some owner → new mark ≡ Some owner
 
--- what touched a mark, by the slot of its lowest bits: a free one has source 0, and where another mark is there, the rest is looked up
-abbrev pub owner_by : Option Slot → ℕ → Option ℕ → Option ℕ
+-- what touched a mark, by the slot of its lowest bits: a free one has source 0, and if another mark is there, the rest is looked up
+abbrev pub owner_by : Option MarkSlot → ℕ → Option ℕ → Option ℕ
 owner_by None mark rest = rest
 owner_by (Some slot) mark rest = if slot.owner == 0 then None else (if slot.mark == mark then Some slot.owner else rest)
 
-abbrev pub owner_in : ℕ → List Slot → (ℕ → Option ℕ) → ℕ → Option ℕ
+abbrev pub owner_in : ℕ → List MarkSlot → (ℕ → Option ℕ) → ℕ → Option ℕ
 owner_in mask slots rest mark = owner_by (slice_get slots (bit_and mark mask)) mark (rest mark)
 
-abbrev pub owner_of : Owners → ℕ → Option ℕ
+abbrev pub owner_of : MarkOwners → ℕ → Option ℕ
 owner_of owners = owner_in owners.mask owners.slots.items (get nat_eq owners.rest)
 
 -- each key that was touched has the mark of its source

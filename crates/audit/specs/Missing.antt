@@ -4,7 +4,7 @@ use Rattle.std.specs.List.{range_with_len}
 use Rattle.std.specs.FinSet as set
 use Rattle.gtid_text.specs.declared.Gtid.{Gtid}
 use Rattle.gtid_set.specs.Sets.{Gtids, gtid}
-use Rattle.source_history.specs.World as history
+use Rattle.history.specs.Sources as history
 use Rattle.world.specs.declared.verdict.Verdict.{Verdict}
 use Rattle.world.specs.declared.verdict.Verdict.TheVariants.{Missing}
 use Rattle.world.specs.Search.{or_next}
@@ -14,7 +14,7 @@ abbrev pub number_before : Option Gtid → ℕ → ℕ
 number_before None source = 0
 number_before (Some g) source = if g.source == source then g.number else 0
 
--- the least number of a source between two others that a set has not got
+-- the least number of a source between two others that a set lacks
 abbrev pub next_absent : Gtids → ℕ → ℕ → ℕ → Option ℕ
 next_absent opened source after below = find (λ n. not (set.contains opened (gtid source n))) (range_with_len (after + 1) (below - (after + 1)))
 

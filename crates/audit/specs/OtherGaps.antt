@@ -9,10 +9,11 @@ use Rattle.gtid_text.specs.Gtids.{same_gtid}
 use Rattle.gtid_set.specs.Sets.{Gtids}
 use Rattle.rows.specs.declared.change.Key.{Key}
 use Rattle.rows.specs.declared.change.Transaction.{Transaction}
-use Rattle.rows.specs.WriteSet.{touches, shares_key}
+use Rattle.rows.specs.WriteSet.{touches}
+use Rattle.rows.specs.Conflicts.{conflicts}
 use Rattle.journal.specs.declared.Entry.{Entry}
 use Rattle.journal.specs.Journals.{JournalValue}
-use Rattle.source_history.specs.World.{World, content}
+use Rattle.history.specs.Sources.{World, content}
 use Rattle.world.specs.declared.verdict.Verdict.{Verdict}
 use Rattle.world.specs.declared.verdict.Verdict.TheVariants.{NotClosed}
 use Rattle.world.specs.Audit.{is_recorded_before, unequal, purged}
@@ -54,7 +55,7 @@ pub record LeavesOut (world : World) (journals : List JournalValue) (g h : Gtid)
   pub earlier : content world h ≡ Some u
   pub source : h.source ≡ g.source
   pub smaller : h.number < g.number
-  pub shares : shares_key world.schema u t ≡ true
+  pub shares : conflicts world.schema u t ≡ true
   pub left_out : is_recorded_before there.journal there.place h ≡ false
 
 -- the verdict reports a GTID that is present without a nearest earlier one, and names that one

@@ -6,8 +6,8 @@ use Rattle.gtid_text.specs.declared.Gtid.{Gtid}
 use Rattle.rows.specs.declared.change.RowFault.{RowFault}
 use Rattle.rows.specs.declared.schema.Table.{Table}
 use Rattle.rows.specs.Apply.{Rows, apply}
-use Rattle.source_history.specs.World.{World, of_source, entries_in}
-use Rattle.source_history.specs.World as history
+use Rattle.history.specs.Sources.{World, of_source, entries_in}
+use Rattle.history.specs.Sources as history
 use Rattle.world.specs.declared.verdict.Verdict.{Verdict}
 use Rattle.world.specs.declared.verdict.Verdict.TheVariants.{DoesNotApply}
 use Rattle.world.specs.Audit.{first_fault}
@@ -69,7 +69,7 @@ refused_from schema passed (e ∷ es) rows =
     if nat_lt passed e.0.source then refused_or e (apply schema e.1 rows) (refused_from schema passed es) (refused_from schema e.0.source es rows)
     else refused_from schema passed es rows
 
--- where a transaction does not apply by the verdict, what is refused of greater sources
+-- if by the verdict a transaction does not apply, what is refused of greater sources
 abbrev pub other_refusals : World → Verdict → List Verdict
 other_refusals world (DoesNotApply g fault) = refused_from world.schema g.source (finmap.entries world.contents) world.opening_rows
 other_refusals world _ = []

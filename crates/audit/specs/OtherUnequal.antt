@@ -7,7 +7,7 @@ use Rattle.gtid_text.specs.Gtids.{same_gtid}
 use Rattle.gtid_set.specs.Sets.{Gtids}
 use Rattle.journal.specs.declared.Entry.{Entry}
 use Rattle.journal.specs.Journals.{JournalValue}
-use Rattle.source_history.specs.World.{World}
+use Rattle.history.specs.Sources.{World}
 use Rattle.world.specs.declared.verdict.Verdict.{Verdict}
 use Rattle.world.specs.declared.verdict.Verdict.TheVariants.{Unequal}
 use Rattle.world.specs.Audit.{all_entries, is_unequal}
@@ -46,7 +46,7 @@ unequal_from world reported [] = []
 unequal_from world reported (e ∷ es) =
     if is_unequal world e && not (set.contains reported e.gtid) then Unequal e.gtid ∷ unequal_from world (set.insert reported e.gtid) es else unequal_from world reported es
 
--- each GTID that is unequal but that of the verdict; where another verdict is found, none is
+-- each GTID that is unequal, but for that of the verdict; none if the verdict is another one
 abbrev pub other_unequal : World → List JournalValue → Verdict → List Verdict
 other_unequal world journals (Unequal g) = unequal_from world (set.insert set.empty g) (all_entries journals)
 other_unequal world journals _ = []

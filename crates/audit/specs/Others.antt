@@ -13,8 +13,8 @@ use Rattle.rows.specs.declared.schema.Table.{Table}
 use Rattle.rows.specs.Order.{key_eq}
 use Rattle.rows.specs.WriteSet.{write_set}
 use Rattle.journal.specs.Journals.{JournalValue}
-use Rattle.source_history.specs.World.{World}
-use Rattle.source_history.specs.World as history
+use Rattle.history.specs.Sources.{World}
+use Rattle.history.specs.Sources as history
 use Rattle.world.specs.declared.verdict.Verdict.{Verdict}
 use Rattle.world.specs.declared.verdict.Verdict.TheVariants.{Purged, Missing, Shared}
 use Rattle.world.specs.Search.{when}

@@ -2,7 +2,7 @@
 use Rattle.std.specs.Prelude.{ℕ, ◌+◌, not, List, [], ◌∷◌, Option, None}
 use Rattle.std.specs.FinSet as set
 use Rattle.journal.specs.Journals.{JournalValue}
-use Rattle.source_history.specs.World.{World}
+use Rattle.history.specs.Sources.{World}
 use Rattle.world.specs.declared.verdict.Verdict.{Verdict}
 use Rattle.world.specs.declared.verdict.Verdict.TheVariants.{Purged}
 use Rattle.world.specs.Search.{or_next, when}

@@ -9,9 +9,11 @@ use Rattle.rows.specs.declared.schema.Table.{Table}
 use Rattle.rows.specs.Fits.{misfit, Fits}
 use Rattle.journal.specs.declared.Entry.{Entry}
 use Rattle.journal.specs.Journals.{JournalValue}
-use Rattle.source_history.specs.World.{World}
+use Rattle.history.specs.Sources.{World}
 use Rattle.gtid_set.specs.Sets.{Gtids}
-use Rattle.world.specs.Audit.{all_entries, first_contents, is_recorded_in, world_of}
+use Rattle.rows.specs.Database.{Database}
+use Rattle.world.specs.declared.verdict.Verdict.{Verdict}
+use Rattle.world.specs.Audit.{all_entries, first_contents, is_recorded_in, world_of, verdict, verdict_of_keys}
 use Rattle.audit.specs.Contents.{Contents, in_order}
 use Rattle.audit.specs.declared.sources.WorldFault.{WorldFault}
 use Rattle.audit.specs.declared.sources.WorldFault.TheVariants as world
@@ -19,6 +21,13 @@ use Rattle.audit.specs.declared.sources.WorldFault.TheVariants as world
 -- The world of these journals: what they brought first under each GTID beyond the opening set.
 abbrev pub IsWorldOf : World → List JournalValue → Type 0
 IsWorldOf world journals = world ≡ world_of world.schema world.opening_set world.opening_rows journals
+
+-- what an audit of journals finds in their own world over an opening set and rows, and what an audit of their keys finds
+abbrev pub verdict_over : Database → Gtids → List JournalValue → Verdict
+verdict_over rows opened journals = verdict (world_of rows.schema opened rows.rows journals) journals
+
+abbrev pub keys_verdict_over : Database → Gtids → List JournalValue → Verdict
+keys_verdict_over rows opened journals = verdict_of_keys (world_of rows.schema opened rows.rows journals) journals
 
 -- the schema takes each transaction
 abbrev pub AllFit : List Table → List Entry → Type 0
@@ -42,7 +51,7 @@ pub record IsMisfit (schema : List Table) (entries : List Entry) (g : Gtid) (fau
   pub named : entry.gtid ≡ g
   pub unfit : misfit schema entry.txn ≡ Some fault
 
--- Why there is no world: memory was refused, or the schema does not take what journals bring first under this GTID.
+-- Why there is no world: out of memory, or the schema does not take what journals bring first under this GTID.
 abbrev pub IsWorldFault : List Table → Gtids → List JournalValue → WorldFault → Type 0
 IsWorldFault schema opened journals world.Memory = Unit {0}
 IsWorldFault schema opened journals (world.NotInSchema g fault) = IsMisfit schema (in_order (first_contents opened (all_entries journals))) g fault

@@ -12,7 +12,7 @@ use rows::{PrepareFault, Rows};
 use std::alloc::{AllocError, Global};
 use world::Verdict;
 
-/// The first of these that does not apply, one after another.
+/// The first of these that does not apply when they are applied in order.
 fn first_fault(
     alloc: Global,
     rows: &mut Rows,

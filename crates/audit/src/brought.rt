@@ -1,4 +1,4 @@
-//! What journals have, where that is not all that the world has.
+//! What journals have, if that is not all that the world has.
 ghost use Rattle.std.specs.Prelude.{◌≡◌, IfOk, None, length, true};
 ghost use Rattle.std.specs.List.{list_all};
 ghost use Rattle.std.specs.Option.{unwrap_or};
@@ -57,8 +57,7 @@ impl World {
         self.are_all_recorded(alloc, journals)
     }
 
-    /// What journals bring first under each GTID beyond the opening set, where that is not found to be what
-    /// the world has.
+    /// What journals bring first under each GTID beyond the opening set, unless that is found to be what the world has.
     pub(crate) fn first_contents(
         &self,
         alloc: Global,

@@ -15,8 +15,8 @@ use rows::Transaction;
 use std::alloc::{AllocError, Global};
 use std::marker::Model;
 
-/// For each source the place at which its next transaction is looked for first. Some sources share one: it is a
-/// guess, and what is there is tested.
+/// For each source the place where the search for its next transaction begins. Some sources share one: it is a guess, and the entry there
+/// is tested.
 pub(crate) type Guesses = [usize; 16];
 
 /// From each GTID to its transaction: the entries in the order of GTIDs, no GTID twice. The images
@@ -39,8 +39,7 @@ impl Model for Contents {
 }
 
 impl Contents {
-    /// The first transaction that journals bring under each GTID beyond a set. Where they bring the
-    /// GTIDs in order, nothing is sorted.
+    /// The first transaction that journals bring under each GTID beyond a set. If they bring the GTIDs in order, nothing is sorted.
     pub(crate) fn of_journals(
         alloc: Global,
         opened: &GtidSet,
@@ -53,7 +52,7 @@ impl Contents {
         Ok(Contents { entries })
     }
 
-    /// The transaction of a GTID, which is looked for at the guess of its source first.
+    /// The transaction of a GTID. The search begins at the guess of its source.
     pub(crate) fn get_near(&self, guesses: &mut Guesses, gtid: &Gtid) -> Option<&Transaction>
         ensures { option_copied result ≡ finmap.get self.now gtid.now }
     {
@@ -63,8 +62,7 @@ impl Contents {
         }
     }
 
-    /// The place of a GTID in the order of GTIDs, if it has a transaction. It is looked for at the guess of its
-    /// source first.
+    /// The place of a GTID in the order of GTIDs, if it has a transaction. The search begins at the guess of its source.
     pub(crate) fn place_near(&self, guesses: &mut Guesses, gtid: &Gtid) -> Option<usize>
         ensures { IsPlaceIn self.now gtid.now result }
     {
@@ -97,7 +95,7 @@ fn entries_beyond(
     Ok(list)
 }
 
-/// Puts the entries that were not executed from the start after others.
+/// Appends the entries that were not executed from the start.
 fn push_entries(
     list: &mut Vec<Entry>,
     opened: &GtidSet,
@@ -116,8 +114,8 @@ fn push_entries(
     Ok(())
 }
 
-/// Sorts entries by their GTIDs and keeps the first of each. Where they are ascending already, it only looks
-/// at them; else the sort allocates room for as many entries.
+/// Sorts entries by their GTIDs and keeps the first of each. If they are ascending already, they are only compared; else the sort allocates
+/// room for as many entries.
 fn keep_firsts(list: &mut Vec<Entry>) -> Result<(), AllocError>
     ensures rising { OnOk result (IsAscending list.new.items) }
     ensures firsts { OnOk result (contents_of list.new.items ≡ contents_of list.old.items) }
@@ -144,8 +142,8 @@ fn guess_of(source: SourceId) -> usize
     (source.bits() % 16) as usize
 }
 
-/// The place of a GTID among entries, or where it would be. It is looked for at the guess of its source first. The
-/// next guess is the place after it.
+/// Searches entries for a GTID, first at the guess of its source: `Ok` is its place, `Err` where it would be inserted. The next guess is
+/// the place after it.
 fn seek(entries: &[Entry], guesses: &mut Guesses, gtid: &Gtid) -> Result<usize, usize>
     ensures within { IsSearchInRange result (length entries.now) }
     ensures place { IsBinarySearchResult (λ e. gtid_cmp e.gtid gtid.now) entries.now result }
@@ -158,7 +156,7 @@ fn seek(entries: &[Entry], guesses: &mut Guesses, gtid: &Gtid) -> Result<usize, 
     found
 }
 
-/// The place of a GTID among entries, or where it would be. It is looked for at a guess first.
+/// Searches entries for a GTID, first at a guess: `Ok` is its place, `Err` where it would be inserted.
 fn place_near(entries: &[Entry], guess: usize, gtid: &Gtid) -> Result<usize, usize>
     ensures within { IsSearchInRange result (length entries.now) }
     ensures place { IsBinarySearchResult (λ e. gtid_cmp e.gtid gtid.now) entries.now result }
@@ -171,7 +169,7 @@ fn place_near(entries: &[Entry], guess: usize, gtid: &Gtid) -> Result<usize, usi
     place_of(entries, gtid)
 }
 
-/// The place of a GTID among entries, or where it would be.
+/// Searches entries for a GTID: `Ok` is its place, `Err` where it would be inserted.
 fn place_of(entries: &[Entry], gtid: &Gtid) -> Result<usize, usize>
     ensures within { IsSearchInRange result (length entries.now) }
     ensures place { IsBinarySearchResult (λ e. gtid_cmp e.gtid gtid.now) entries.now result }

@@ -1,4 +1,4 @@
-//! The audit without a world, where one pass finds that nothing is wrong with keys.
+//! The audit without a world, if one pass finds that nothing is wrong with keys.
 ghost use Rattle.std.specs.Prelude.{◌≡◌, IfOk, IfErr, IfSome, [], map, true};
 ghost use Rattle.std.specs.List.{list_all};
 ghost use Rattle.std.specs.FinSet as set;
@@ -8,7 +8,7 @@ ghost use Rattle.world.specs.Audit.{all_entries, first_contents, verdict, verdic
 ghost use Rattle.audit.specs.Contents.{in_order};
 ghost use Rattle.audit.specs.Faults.{IsAuditFault};
 ghost use Rattle.audit.specs.Firsts.{AreFirstsIf, BeginInOrder};
-ghost use Rattle.audit.specs.Worlds.{AllFit};
+ghost use Rattle.audit.specs.Worlds.{AllFit, verdict_over, keys_verdict_over};
 
 use crate::finding::{audit, audit_keys, keep_rules};
 use crate::gathering::{agree_apart, list_apart, list_equal};
@@ -41,8 +41,7 @@ pub fn begin_in_order(
     if !have_previous(opened, journals) {
         return Ok(false);
     }
-    let ordered = are_in_order(alloc, opened, journals)?;
-    Ok(ordered)
+    are_in_order(alloc, opened, journals)
 }
 
 /// Whether the keys of journals are found to be sound by one pass over them.
@@ -58,8 +57,7 @@ fn are_keys_sound(
     if !begin_in_order(alloc, opened, journals)? {
         return Ok(false);
     }
-    let sound = agree_apart(alloc, opened, schema, journals)?;
-    Ok(sound)
+    agree_apart(alloc, opened, schema, journals)
 }
 
 /// The audit of keys by a world that is made for it.
@@ -81,9 +79,9 @@ fn audit_keys_with_world(
     found
 }
 
-/// What an audit of the keys of journals finds first in their own world over an opening set and rows, whose schema takes each
-/// transaction beyond that set: what `audit_keys` finds in the world that `world_of_fitting` makes. Where the keys are sound,
-/// which one pass over the journals shows, no world is made. The faults are those of `audit_keys`.
+/// What an audit of the keys of journals finds first in their own world over an opening set and rows, whose schema takes each transaction
+/// beyond that set: what `audit_keys` finds in the world that `world_of_fitting` makes. If one pass over the journals shows that the keys
+/// are sound, no world is made. The faults are those of `audit_keys`.
 pub fn audit_keys_of(
     alloc: Global,
     opened: &GtidSet,
@@ -91,7 +89,7 @@ pub fn audit_keys_of(
     journals: &[Journal],
 ) -> Result<Verdict, SetFault>
     requires { AllFit rows.now.schema (in_order (first_contents opened.now (all_entries journals.now))) }
-    ensures found { IfOk result (λ found. found ≡ verdict_of_keys (world_of rows.now.schema opened.now rows.now.rows journals.now) journals.now) }
+    ensures found { IfOk result (λ found. found ≡ keys_verdict_over rows.now opened.now journals.now) }
     ensures fault { IfErr result (IsAuditFault opened.now journals.now) }
 {
     if are_keys_sound(alloc, opened, rows.schema(), journals)? {
@@ -100,9 +98,9 @@ pub fn audit_keys_of(
     audit_keys_with_world(alloc, opened, rows, journals)
 }
 
-/// Whether journals are found to agree with one another. Where they do, the first entry of each GTID beyond the opening set is put into
-/// a list that is empty, in the order of GTIDs. If the journals begin in order too (`begin_in_order`), that is all that their world has,
-/// and their keys are sound unless two sources touch one (`share_no_key`).
+/// Whether journals are found to agree with one another. If they do, the first entry of each GTID beyond the opening set is put into
+/// `list`, which is empty at first, in the order of GTIDs. If the journals begin in order too (`begin_in_order`), that is all that their
+/// world has, and their keys are sound unless two sources touch one (`share_no_key`).
 pub fn list_agreeing<'a>(
     alloc: Global,
     list: &mut Vec<&'a Entry>,
@@ -120,8 +118,8 @@ pub fn list_agreeing<'a>(
     Ok(ascending)
 }
 
-/// The verdict on journals that begin within the opening set and are in order, where one pass over them finds their keys to be
-/// sound: what the pass listed is applied once. The list is empty at first.
+/// The verdict on journals that begin within the opening set and are in order, if one pass over them finds their keys to be sound: what the
+/// pass listed is applied once. The list is empty at first.
 fn verdict_listed<'a>(
     alloc: Global,
     list: &mut Vec<&'a Entry>,
@@ -145,7 +143,7 @@ fn verdict_listed<'a>(
     Ok(Some(found))
 }
 
-/// The verdict on journals, where one pass over them finds their keys to be sound.
+/// The verdict on journals, if one pass over them finds their keys to be sound.
 fn verdict_in_one_pass(
     alloc: Global,
     opened: &GtidSet,
@@ -181,9 +179,9 @@ fn audit_with_world(
     found
 }
 
-/// What an audit of journals finds first in their own world over an opening set and rows, whose schema takes each transaction
-/// beyond that set: what `audit` finds in the world that `world_of_fitting` makes. Where one pass over the journals shows that
-/// their keys are sound, no world is made, and what the pass lists is applied once. The faults are those of `audit_keys`.
+/// What an audit of journals finds first in their own world over an opening set and rows, whose schema takes each transaction beyond that
+/// set: what `audit` finds in the world that `world_of_fitting` makes. If one pass over the journals shows that their keys are sound, no
+/// world is made, and what the pass lists is applied once. The faults are those of `audit_keys`.
 pub fn audit_of(
     alloc: Global,
     opened: &GtidSet,
@@ -191,7 +189,7 @@ pub fn audit_of(
     journals: &[Journal],
 ) -> Result<Verdict, SetFault>
     requires { AllFit rows.now.schema (in_order (first_contents opened.now (all_entries journals.now))) }
-    ensures found { IfOk result (λ found. found ≡ verdict (world_of rows.now.schema opened.now rows.now.rows journals.now) journals.now) }
+    ensures found { IfOk result (λ found. found ≡ verdict_over rows.now opened.now journals.now) }
     ensures fault { IfErr result (IsAuditFault opened.now journals.now) }
 {
     if let Some(found) = verdict_in_one_pass(alloc, opened, rows, journals)? {

@@ -21,8 +21,8 @@ pub fn keep_rules(journals: &[Journal])
     }
 }
 
-/// A key that two sources touch, or else what is left out of a journal. Where journals are in order
-/// nothing is left out of them, and no table of what each transaction needs is made.
+/// A key that two sources touch, or else what is left out of a journal. If journals are in order, nothing is left out of them, and no table
+/// of what each transaction needs is made.
 fn find_shared_or_left_out(
     alloc: Global,
     world: &World,
@@ -47,8 +47,7 @@ fn find_shared_or_left_out(
     world.find_not_closed(alloc, &needed.needs, journals)
 }
 
-/// What is found without looking at a key. Where journals are in order nothing is missing, and nothing is
-/// looked for.
+/// What is found without examining a key. If journals are in order, nothing is missing, and there is no search.
 fn find_in_gtids(
     alloc: Global,
     world: &World,
@@ -71,8 +70,7 @@ fn find_in_gtids(
     Ok(world.find_missing(alloc, journals)?)
 }
 
-/// What an audit finds first without looking at a key: Unequal, Purged or Missing. The faults are those
-/// of `audit_keys`.
+/// What an audit finds first without examining a key: Unequal, Purged or Missing. The faults are those of `audit_keys`.
 pub fn audit_gtids(
     alloc: Global,
     world: &World,
@@ -101,8 +99,8 @@ fn find_in_keys(
     Ok(find_shared_or_left_out(alloc, world, journals, ordered)?)
 }
 
-/// What an audit of the keys of journals finds first. It applies no transaction. `PoolFull` comes only
-/// where the set that the verdict would name has more than 4,294,967,294 intervals.
+/// What an audit of the keys of journals finds first. It applies no transaction. `PoolFull` comes only if the set that the verdict would
+/// name has more than 4,294,967,294 intervals.
 pub fn audit_keys(alloc: Global, world: &World, journals: &[Journal]) -> Result<Verdict, SetFault>
     ensures found { IfOk result (λ found. found ≡ verdict_of_keys world.now journals.now) }
     ensures fault { IfErr result (IsAuditFault world.now.opening_set journals.now) }

@@ -11,7 +11,7 @@ ghost use Rattle.world.specs.Folds.{touched_by};
 
 use crate::needs::{Needed, Needs, needs_of};
 use crate::sources::World;
-use crate::standing::Standing;
+use crate::standing::GtidTable;
 use crate::touches::Touches;
 use gtid_set::GtidSet;
 use gtid_text::Gtid;
@@ -20,14 +20,14 @@ use rows::keys_touched;
 use std::alloc::{AllocError, Global};
 use world::Verdict;
 
-pub(crate) fn is_recorded(previous: &GtidSet, standing: &Standing, gtid: &Gtid) -> bool
+pub(crate) fn is_recorded(previous: &GtidSet, standing: &GtidTable, gtid: &Gtid) -> bool
     ensures { result ≡ is_recorded previous.now standing.now gtid.now }
 {
     previous.contains(gtid) || standing.has(gtid)
 }
 
 /// Whether one of these is absent.
-fn lacks_any(previous: &GtidSet, standing: &Standing, gtids: &[Gtid]) -> bool
+fn lacks_any(previous: &GtidSet, standing: &GtidTable, gtids: &[Gtid]) -> bool
     ensures { result ≡ list_any (λ g. not (is_recorded previous.now standing.now g)) gtids.now }
 {
     gtids
@@ -36,7 +36,7 @@ fn lacks_any(previous: &GtidSet, standing: &Standing, gtids: &[Gtid]) -> bool
 }
 
 /// Whether something that an entry needs is absent.
-fn lacks(needs: &Needs, previous: &GtidSet, standing: &Standing, gtid: &Gtid) -> bool
+fn lacks(needs: &Needs, previous: &GtidSet, standing: &GtidTable, gtid: &Gtid) -> bool
     ensures { result ≡ lacks needs.now (is_recorded previous.now standing.now) gtid.now }
 {
     match needs.get(gtid) {
@@ -60,7 +60,7 @@ impl World {
         alloc: Global,
         keys: &Touches,
         previous: &GtidSet,
-        standing: &Standing,
+        standing: &GtidTable,
         earlier: &Entry,
         entry: &Entry,
     ) -> Result<bool, AllocError>
@@ -75,12 +75,12 @@ impl World {
         Ok(shares && !is_recorded(previous, standing, &earlier.gtid))
     }
 
-    /// The least that shares a key with an entry, comes before it in its source and is absent.
+    /// The least GTID that shares a key with an entry, comes before it in its source and is absent.
     fn least_left(
         &self,
         alloc: Global,
         previous: &GtidSet,
-        standing: &Standing,
+        standing: &GtidTable,
         entry: &Entry,
     ) -> Result<Option<Verdict>, AllocError>
         requires { set.contains self.now.opening_set entry.now.gtid ≡ false }
@@ -102,7 +102,7 @@ impl World {
         alloc: Global,
         needs: &Needs,
         previous: &GtidSet,
-        standing: &Standing,
+        standing: &GtidTable,
         entry: &Entry,
     ) -> Result<Option<Verdict>, AllocError>
         ensures { IfOk result (λ found. found ≡ gap_at self.now needs.now (is_recorded previous.now standing.now) entry.now) }
@@ -127,7 +127,7 @@ impl World {
     ) -> Result<Option<Verdict>, AllocError>
         ensures { IfOk result (λ found. found ≡ gap_among self.now needs.now previous.now set.empty entries.now) }
     {
-        let mut standing = Standing::new(alloc);
+        let mut standing = GtidTable::new(alloc);
         for entry in entries {
             let found = self.gap_at(alloc, needs, previous, &standing, entry)?;
             if found.is_some() {
@@ -155,7 +155,7 @@ impl World {
         Ok(None)
     }
 
-    /// The first entry for which something is left out, and the least such.
+    /// The first entry for which something is left out, and the least GTID that is.
     pub(crate) fn find_not_closed(
         &self,
         alloc: Global,

@@ -14,7 +14,7 @@ ghost use Rattle.audit.specs.Marks.{TouchesMarks, key_mark, owner_of};
 
 use crate::equal::is_equal;
 use crate::marks::push_marks;
-use crate::owners::Owners;
+use crate::owners::MarkOwners;
 use gtid_set::GtidSet;
 use gtid_text::{Gtid, SourceId};
 use journal::{Entry, Journal};
@@ -22,10 +22,10 @@ use rows::Schema;
 use std::alloc::{AllocError, Global};
 use std::marker::Model;
 
-/// The greatest number of sources that are gone over (our own limit): a run is looked for among as many.
+/// The most sources that one pass takes (our own limit): a source's run is searched for among as many.
 const MOST_RUNS: usize = 64;
 
-/// What journals brought of one source: the number that came last, and the first entry of each GTID.
+/// What journals brought of one source: the last number, and the first entry of each GTID.
 #[derive(Drop)]
 struct Run<'a> {
     source: SourceId,
@@ -72,7 +72,7 @@ impl<'a> Run<'a> {
         self.last
     }
 
-    /// The first entry of a further GTID.
+    /// Appends the first entry of a further GTID.
     fn put(&mut self, entry: &'a Entry) -> Result<(), AllocError>
         ensures { OnOk result (self.new ≡ longer self.old entry.now) }
     {
@@ -81,7 +81,7 @@ impl<'a> Run<'a> {
         Ok(())
     }
 
-    /// An entry that has perhaps this number: it is at the place where it is if no number was passed over.
+    /// The candidate for the entry with this number: the one at the index that it has if the run has no gap.
     fn entry_near(&self, number: u64) -> Option<&Entry>
         ensures { IfSome result (λ e. IsListed self.now.entries e.now) }
     {
@@ -107,7 +107,7 @@ impl<'a> Run<'a> {
         }
     }
 
-    /// Puts the entries behind a list.
+    /// Appends the entries to a list.
     fn push_to(&self, list: &mut Vec<&'a Entry>) -> Result<(), AllocError>
         ensures { OnOk result (map (λ e. e.now) list.new.items ≡ map (λ e. e.now) list.old.items ++ self.now.entries) }
     {
@@ -128,7 +128,7 @@ fn place_of(runs: &[Run<'_>], source: SourceId) -> Option<usize>
     None
 }
 
-/// The place of a source's run, which is looked for at a guess first.
+/// The place of a source's run. The search begins at a guess.
 fn place_near(runs: &[Run<'_>], guess: usize, source: SourceId) -> Option<usize>
     ensures found { IfSome result (IsRunAt runs.now source) }
     ensures none { result ≡ None → HasNoRun runs.now source }
@@ -162,7 +162,7 @@ fn run_of<'a>(
     Ok(Some(place))
 }
 
-/// Puts an entry behind a run.
+/// Appends an entry to a run.
 fn put<'a>(runs: &mut Vec<Run<'a>>, place: usize, entry: &'a Entry) -> Result<(), AllocError>
     requires { place < length runs.old.items }
     ensures { OnOk result (IsPut runs.old.items runs.new.items place entry.now) }
@@ -170,10 +170,10 @@ fn put<'a>(runs: &mut Vec<Run<'a>>, place: usize, entry: &'a Entry) -> Result<()
     runs[place].put(entry)
 }
 
-/// The source of an entry touches the marks of its keys; whether no other source touched one of them before. Where there are no tables there
-/// are no keys, and no change is read.
+/// Lets the source of an entry touch the marks of its keys; returns whether no other source touched one of them before. Without tables
+/// there are no keys, and no change is read.
 fn touch_keys(
-    owners: &mut Owners,
+    owners: &mut MarkOwners,
     marks: &mut Vec<u64>,
     schema: &Schema,
     entry: &Entry,
@@ -230,12 +230,12 @@ fn usual_keys_of_all(journals: &[Journal]) -> usize {
 struct Gathering<'a> {
     runs: Vec<Run<'a>>,
     place: usize,
-    owners: Owners,
+    owners: MarkOwners,
     /// (one list for the marks of each transaction)
     marks: Vec<u64>,
 }
 
-/// An entry comes that was not executed from the start, of the source of this run: whether it is the first of its GTID and
+/// Gathers an entry that was not executed from the start, of the source of this run; returns whether it is the first of its GTID and
 /// touches no key of another source, or is found to be equal to the first.
 fn gather_new<'a>(
     state: &mut Gathering<'a>,
@@ -253,8 +253,8 @@ fn gather_new<'a>(
     touch_keys(&mut state.owners, &mut state.marks, schema, entry)
 }
 
-/// An entry comes: whether it was executed from the start, is found to be equal to the first of its GTID, or is that first
-/// one and touches no key of another source.
+/// Gathers an entry; returns whether it was executed from the start, is found to be equal to the first of its GTID, or is that first one
+/// and touches no key of another source.
 fn gather<'a>(
     alloc: Global,
     state: &mut Gathering<'a>,
@@ -276,7 +276,7 @@ fn gather<'a>(
     }
 }
 
-/// Entries come, one after another.
+/// Gathers entries in order, up to one for which `gather` is false; returns whether there was none.
 fn gather_each<'a>(
     alloc: Global,
     state: &mut Gathering<'a>,
@@ -294,7 +294,7 @@ fn gather_each<'a>(
     Ok(true)
 }
 
-/// The entries of journals come, one journal after another.
+/// Gathers all entries of all journals, in order; returns whether `gather` was true of each.
 fn gather_all<'a>(
     alloc: Global,
     state: &mut Gathering<'a>,
@@ -313,7 +313,7 @@ fn gather_all<'a>(
 }
 
 /// Nothing came yet.
-fn begin<'a>(alloc: Global, owners: Owners) -> Gathering<'a>
+fn begin<'a>(alloc: Global, owners: MarkOwners) -> Gathering<'a>
     ensures { (opened : Gtids) (schema : List Table) → IsGathered opened schema [] result.runs.items (owner_of result.owners) }
 {
     Gathering {
@@ -324,8 +324,8 @@ fn begin<'a>(alloc: Global, owners: Owners) -> Gathering<'a>
     }
 }
 
-/// Whether it is found in one pass that no two transactions of journals under one GTID differ, and that no two sources touch one
-/// key. Nothing is looked for where they have more than 64 sources.
+/// Whether one pass finds that no two transactions of journals under one GTID differ, and that no two sources touch one key. The pass gives
+/// up if there are more than 64 sources.
 pub(crate) fn agree_apart(
     alloc: Global,
     opened: &GtidSet,
@@ -334,12 +334,12 @@ pub(crate) fn agree_apart(
 ) -> Result<bool, AllocError>
     ensures { IfOk result (λ yes. yes ≡ true → AgreeApart opened.now schema.now journals.now) }
 {
-    let owners = Owners::for_marks(alloc, usual_keys_of_all(journals))?;
+    let owners = MarkOwners::for_marks(alloc, usual_keys_of_all(journals))?;
     let mut state = begin(alloc, owners);
     gather_all(alloc, &mut state, opened, schema, journals)
 }
 
-/// Puts the entries of runs behind a list, run after run.
+/// Appends the entries of runs to a list, run after run.
 fn push_runs<'a>(list: &mut Vec<&'a Entry>, runs: &[Run<'a>]) -> Result<(), AllocError>
     ensures { OnOk result (map (λ e. e.now) list.new.items ≡ map (λ e. e.now) list.old.items ++ entries_of runs.now) }
 {
@@ -378,8 +378,8 @@ fn gather_list<'a>(
     Ok(true)
 }
 
-/// What `agree_apart` finds. Where it is found, the first entry of each GTID beyond the opening set is put into a list that is
-/// empty: sources are ascending in it, and the numbers of each are too.
+/// What `agree_apart` finds. If it is true, the first entry of each GTID beyond the opening set is put into `list`, which is empty at
+/// first: sources are ascending in it, and the numbers of each are too.
 pub(crate) fn list_apart<'a>(
     alloc: Global,
     list: &mut Vec<&'a Entry>,
@@ -391,13 +391,13 @@ pub(crate) fn list_apart<'a>(
     ensures agree { IfOk result (λ yes. yes ≡ true → AgreeApart opened.now schema.now journals.now) }
     ensures listed { IfOk result (λ yes. yes ≡ true → AreListed (first_contents opened.now (all_entries journals.now)) (map (λ e. e.now) list.new.items)) }
 {
-    let owners = Owners::for_marks(alloc, usual_keys_of_all(journals))?;
+    let owners = MarkOwners::for_marks(alloc, usual_keys_of_all(journals))?;
     let mut state = begin(alloc, owners);
     gather_list(alloc, &mut state, list, opened, schema, journals)
 }
 
-/// The first entry of each GTID beyond the opening set is put into a list that is empty, unless two transactions of journals under one
-/// GTID differ: sources are ascending in it, and the numbers of each are too. No key is looked at.
+/// Puts the first entry of each GTID beyond the opening set into `list`, which is empty at first, unless two transactions of journals under
+/// one GTID differ: sources are ascending in it, and the numbers of each are too. No key is examined.
 pub(crate) fn list_equal<'a>(
     alloc: Global,
     list: &mut Vec<&'a Entry>,
@@ -408,7 +408,7 @@ pub(crate) fn list_equal<'a>(
     ensures agree { IfOk result (λ yes. yes ≡ true → AgreeApart opened.now [] journals.now) }
     ensures listed { IfOk result (λ yes. yes ≡ true → AreListed (first_contents opened.now (all_entries journals.now)) (map (λ e. e.now) list.new.items)) }
 {
-    let owners = Owners::for_marks(alloc, 0)?;
+    let owners = MarkOwners::for_marks(alloc, 0)?;
     let mut state = begin(alloc, owners);
     let tables = Schema::empty(alloc);
     gather_list(alloc, &mut state, list, opened, &tables, journals)

@@ -18,7 +18,7 @@ pub(crate) fn are_ascending(entries: &[&Entry]) -> bool
     entries.is_sorted_by(|a, b| a.gtid < b.gtid)
 }
 
-/// The first of these that does not apply, one after another.
+/// The first of these that does not apply when they are applied in order.
 fn first_listed_fault(
     alloc: Global,
     rows: &mut Rows,

@@ -28,8 +28,7 @@ pub struct AllFaults {
     /// Each other GTID that is in a journal without the nearest earlier transaction of its source at
     /// one of its keys, with this one, in the order of journals and entries.
     pub not_closed: Vec<Verdict>,
-    /// Where a transaction does not apply by the verdict, the first that does not of each other source,
-    /// taken alone, sources ascending.
+    /// If by the verdict a transaction does not apply, the first that does not of each other source, taken alone, sources ascending.
     pub does_not_apply: Vec<Verdict>,
 }
 
@@ -94,12 +93,11 @@ impl World {
     }
 }
 
-/// The verdict of `audit`, and after it each other GTID under which journals differ from the world, each other journal
-/// that begins after the opening set, each other missing GTID, each other shared key, each other GTID that
-/// is present without what it needs and each other source whose transactions do not apply (`faults_are_all`).
-/// `SourcesFull` comes only where the numbers that are passed over, missing or executed from the start, are of too
-/// many sources; `PoolFull` only where the intervals of the opening set and of the previous sets and the entries
-/// together are too many.
+/// The verdict of `audit`, and after it each other GTID under which journals differ from the world, each other journal that begins after
+/// the opening set, each other missing GTID, each other shared key, each other GTID that is present without what it needs and each other
+/// source whose transactions do not apply (`faults_are_all`). `SourcesFull` comes only if the numbers that are passed over, missing or
+/// executed from the start, are of too many sources; `PoolFull` only if the intervals of the opening set and of the previous sets and the
+/// entries together are too many.
 pub fn audit_all(alloc: Global, world: &World, journals: &[Journal]) -> Result<AllFaults, SetFault>
     ensures found { IfOk result (λ all. HoldsFaults all (faults_of world.now journals.now)) }
     ensures fault { IfErr result (IsListFault world.now journals.now) }

@@ -30,8 +30,8 @@ pub(crate) fn number_before(last: Option<Gtid>, source: SourceId) -> u64
     }
 }
 
-/// The least number of a source between two others that a set has not got. However many numbers lie between them, it takes as many
-/// steps as the number of the set's intervals has binary digits.
+/// The least number of a source between two others that a set lacks. However many numbers lie between them, it takes as many steps as the
+/// number of the set's intervals has binary digits.
 fn next_absent(opened: &GtidSet, source: SourceId, after: u64, below: u64) -> Option<u64>
     ensures { result ≡ next_absent opened.now source after below }
 {

@@ -20,7 +20,7 @@ fn put_top(tops: &mut KeyTable<SourceId, u64>, top: Gtid) -> Result<(), AllocErr
     Ok(())
 }
 
-/// A number up to which all numbers of a source are there: that of the table, or that of the opening set.
+/// A number up to which all numbers of a source are there, by the table or else by the opening set.
 fn top_number(tops: &KeyTable<SourceId, u64>, opened: &GtidSet, source: SourceId) -> u64
     ensures { (es : List Entry) → AreTops opened.now es tops.now.entries → AreBelow opened.now es source (result + 1) }
 {
@@ -30,7 +30,7 @@ fn top_number(tops: &KeyTable<SourceId, u64>, opened: &GtidSet, source: SourceId
     }
 }
 
-/// From the last number of one source to that of another. The table keeps that of the source that is left.
+/// Turns from the last number of one source to that of another. The table keeps the number of the source that is left.
 fn turn_to(
     tops: &mut KeyTable<SourceId, u64>,
     opened: &GtidSet,
@@ -49,7 +49,7 @@ fn turn_to(
     Ok(Gtid { source, number })
 }
 
-/// The last number of a source once a further one came, unless that skips one.
+/// The last number of a source after a further one, unless that skips one.
 fn next_top(top: Gtid, number: u64) -> Option<Gtid>
     ensures { IfSome result (λ g. IsTopOrNext top number g) }
 {

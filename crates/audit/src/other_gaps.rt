@@ -8,7 +8,7 @@ ghost use Rattle.audit.specs.Ordered.{AreInOrder};
 use crate::gaps::is_recorded;
 use crate::needs::Needs;
 use crate::sources::World;
-use crate::standing::Standing;
+use crate::standing::GtidTable;
 use gtid_set::GtidSet;
 use gtid_text::Gtid;
 use journal::Journal;
@@ -16,7 +16,7 @@ use std::alloc::{AllocError, Global};
 use world::Verdict;
 
 /// The first of these that is absent.
-fn first_of(previous: &GtidSet, standing: &Standing, gtids: &[Gtid]) -> Option<Gtid>
+fn first_of(previous: &GtidSet, standing: &GtidTable, gtids: &[Gtid]) -> Option<Gtid>
     ensures { result ≡ find (λ h. not (is_recorded previous.now standing.now h)) gtids.now }
 {
     for gtid in gtids {
@@ -27,8 +27,13 @@ fn first_of(previous: &GtidSet, standing: &Standing, gtids: &[Gtid]) -> Option<G
     None
 }
 
-/// Of what a GTID needs, the first that is absent.
-fn first_absent(needs: &Needs, previous: &GtidSet, standing: &Standing, gtid: &Gtid) -> Option<Gtid>
+/// The first of the GTIDs that `gtid` needs that is absent.
+fn first_absent(
+    needs: &Needs,
+    previous: &GtidSet,
+    standing: &GtidTable,
+    gtid: &Gtid,
+) -> Option<Gtid>
     ensures { result ≡ first_absent needs.now (is_recorded previous.now standing.now) gtid.now }
 {
     match needs.get(gtid) {
@@ -40,7 +45,7 @@ fn first_absent(needs: &Needs, previous: &GtidSet, standing: &Standing, gtid: &G
 /// Reports that a GTID is present without another, unless that GTID was reported already.
 fn report_gap(
     found: &mut Vec<Verdict>,
-    reported: &mut Standing,
+    reported: &mut GtidTable,
     gtid: Gtid,
     absent: Option<Gtid>,
 ) -> Result<(), AllocError>
@@ -60,13 +65,13 @@ fn report_gaps_among(
     alloc: Global,
     needs: &Needs,
     found: &mut Vec<Verdict>,
-    reported: &mut Standing,
+    reported: &mut GtidTable,
     journal: &Journal,
 ) -> Result<(), AllocError>
     ensures { OnOk result ((rest : List Gap) → found.new.items ++ unreported reported.new rest ≡ found.old.items ++ unreported reported.old (gaps_among needs.now journal.now.previous set.empty journal.now.entries rest)) }
 {
     let previous = journal.previous();
-    let mut standing = Standing::new(alloc);
+    let mut standing = GtidTable::new(alloc);
     for entry in journal.entries() {
         let absent = first_absent(needs, previous, &standing, &entry.gtid);
         report_gap(found, reported, entry.gtid, absent)?;
@@ -76,17 +81,17 @@ fn report_gaps_among(
 }
 
 /// The GTID of the verdict, which is not reported again.
-fn gap_of_verdict(alloc: Global, verdict: &Verdict) -> Result<Standing, AllocError>
+fn gap_of_verdict(alloc: Global, verdict: &Verdict) -> Result<GtidTable, AllocError>
     ensures { IfOk result (λ reported. reported ≡ gap_of_verdict verdict.now) }
 {
-    let mut reported = Standing::new(alloc);
+    let mut reported = GtidTable::new(alloc);
     if let Verdict::NotClosed(gtid, _) = verdict {
         reported.put(*gtid)?;
     }
     Ok(reported)
 }
 
-/// Each GTID that is present without something it needs, but that of the verdict.
+/// Each GTID that is present without something it needs, but for that of the verdict.
 fn gaps_beside(
     alloc: Global,
     needs: &Needs,
@@ -104,8 +109,8 @@ fn gaps_beside(
 }
 
 impl World {
-    /// Each GTID that is in a journal without the nearest earlier one at some key of it, but that of
-    /// the verdict. Where journals are in order there is none, and no table of what each needs is made.
+    /// Each GTID that is in a journal without the nearest earlier one at some key of it, but for that of the verdict. If journals are in
+    /// order, there is none, and no table of what each needs is made.
     pub(crate) fn other_gaps(
         &self,
         alloc: Global,

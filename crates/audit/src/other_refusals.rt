@@ -12,8 +12,8 @@ use rows::{ApplyFault, Rows};
 use std::alloc::{AllocError, Global};
 use world::Verdict;
 
-/// For each source greater than a given one the first of these that does not apply, one after another. Where one
-/// does not, the others of its source are passed over.
+/// For each source greater than a given one the first of these that does not apply when they are applied in order. After one that does not,
+/// the others of its source are skipped.
 fn refusals_among(
     alloc: Global,
     rows: &mut Rows,
@@ -51,8 +51,8 @@ impl World {
         refusals_among(alloc, &mut rows, source, self.in_order())
     }
 
-    /// Where a transaction does not apply by the verdict, the first of each other source that does not
-    /// in its source's list taken alone: smaller sources apply, and sources share no key.
+    /// If by the verdict a transaction does not apply, the first of each other source that does not in its source's list taken alone:
+    /// smaller sources apply, and sources share no key.
     pub(crate) fn other_refusals(
         &self,
         alloc: Global,

@@ -7,18 +7,18 @@ ghost use Rattle.audit.specs.OtherUnequal.{other_unequal, unequal_from};
 
 use crate::contents::Guesses;
 use crate::sources::World;
-use crate::standing::Standing;
+use crate::standing::GtidTable;
 use gtid_text::Gtid;
 use journal::{Entry, Journal};
 use std::alloc::{AllocError, Global};
 use world::Verdict;
 
 impl World {
-    /// Reports the GTID of an entry as unequal, where it is and was not reported already.
+    /// Reports the GTID of an entry as unequal, if it is and was not reported already.
     fn report_unequal(
         &self,
         found: &mut Vec<Verdict>,
-        reported: &mut Standing,
+        reported: &mut GtidTable,
         guesses: &mut Guesses,
         entry: &Entry,
     ) -> Result<(), AllocError>
@@ -34,7 +34,7 @@ impl World {
     fn report_unequal_among(
         &self,
         found: &mut Vec<Verdict>,
-        reported: &mut Standing,
+        reported: &mut GtidTable,
         entries: &[Entry],
     ) -> Result<(), AllocError>
         ensures { OnOk result ((rest : List Entry) → found.new.items ++ unequal_from self.now reported.new rest ≡ found.old.items ++ unequal_from self.now reported.old (entries.now ++ rest)) }
@@ -46,7 +46,7 @@ impl World {
         Ok(())
     }
 
-    /// Each GTID that is unequal, but one that is reported already.
+    /// Each GTID that is unequal, but for one that is reported already.
     fn unequal_beside(
         &self,
         alloc: Global,
@@ -56,7 +56,7 @@ impl World {
         ensures { IfOk result (λ found. found.items ≡ unequal_from self.now (set.insert set.empty gtid) (all_entries journals.now)) }
     {
         let mut found = Vec::new(alloc);
-        let mut reported = Standing::new(alloc);
+        let mut reported = GtidTable::new(alloc);
         reported.put(gtid)?;
         for journal in journals {
             self.report_unequal_among(&mut found, &mut reported, journal.entries())?;
@@ -64,7 +64,7 @@ impl World {
         Ok(found)
     }
 
-    /// Each GTID that is unequal, but that of the verdict. Where another verdict is found, none is.
+    /// Each GTID that is unequal, but for that of the verdict. If the verdict is another one, there is none.
     pub(crate) fn other_unequal(
         &self,
         alloc: Global,

@@ -7,22 +7,22 @@ use gtid_text::SourceId;
 use key_table::KeyTable;
 use std::alloc::{AllocError, Global};
 
-/// A mark, and the source that touched it: 0 where the slot is free.
+/// A mark, and the source that touched it: 0 if the slot is free.
 #[derive(Clone, Copy)]
-struct Slot {
+struct MarkSlot {
     mark: u64,
     owner: SourceId,
 }
 
-/// Which source touched each mark: in the slot of its lowest bits, and among the rest where another mark is there.
+/// Which source touched each mark: in the slot of its lowest bits, or among the rest if another mark is in that slot.
 #[derive(Drop)]
-pub(crate) struct Owners {
+pub(crate) struct MarkOwners {
     mask: u64,
-    slots: Vec<Slot>,
+    slots: Vec<MarkSlot>,
     rest: KeyTable<u64, SourceId>,
 }
 
-/// How many bits of a mark name its slot, for so many slots or more; at most 22.
+/// How many bits of a mark name its slot, for `count` slots or more; at most 22.
 fn slot_bits(count: usize) -> u32
     ensures { result ≤ 22 }
 {
@@ -34,7 +34,7 @@ fn slot_bits(count: usize) -> u32
     22
 }
 
-/// A source touches a mark of the rest; whether no other source touched it before.
+/// Lets a source touch a mark of the rest; returns whether no other source touched it before.
 fn touch_rest(
     rest: &mut KeyTable<u64, SourceId>,
     mark: u64,
@@ -62,23 +62,23 @@ fn are_same(a: u64, b: u64) -> bool
     a == b
 }
 
-impl Owners {
-    /// No mark was touched yet. About so many are expected.
-    pub(crate) fn for_marks(alloc: Global, count: usize) -> Result<Owners, AllocError> {
+impl MarkOwners {
+    /// No mark was touched yet; about `count` marks are expected.
+    pub(crate) fn for_marks(alloc: Global, count: usize) -> Result<MarkOwners, AllocError> {
         let bits = slot_bits(count);
-        let free = Slot {
+        let free = MarkSlot {
             mark: 0,
             owner: SourceId::from_bits(0),
         };
         let slots = vec![in alloc; free; 1_usize << bits]?;
-        Ok(Owners {
+        Ok(MarkOwners {
             mask: (1_u64 << bits).wrapping_sub(1),
             slots,
             rest: KeyTable::new(alloc),
         })
     }
 
-    /// A source touches a mark; whether no other source touched it before.
+    /// Lets a source touch a mark; returns whether no other source touched it before.
     pub(crate) fn touch(&mut self, mark: u64, source: SourceId) -> Result<bool, AllocError>
         requires { (source == 0) ≡ false }
         ensures { IfOk result (λ own. own ≡ true → TouchesMarks (owner_of self.old) (mark ∷ []) source (owner_of self.new)) }
@@ -89,7 +89,7 @@ impl Owners {
         }
         let slot = self.slots[at];
         if is_none(slot.owner) {
-            self.slots[at] = Slot {
+            self.slots[at] = MarkSlot {
                 mark,
                 owner: source,
             };
@@ -98,11 +98,10 @@ impl Owners {
         if are_same(slot.mark, mark) {
             return Ok(slot.owner == source);
         }
-        let own = touch_rest(&mut self.rest, mark, source)?;
-        Ok(own)
+        touch_rest(&mut self.rest, mark, source)
     }
 
-    /// A source touches marks; whether no other source touched one of them before. Nothing is found of source 0.
+    /// Lets a source touch marks; returns whether no other source touched one of them before. Nothing is found of source 0.
     pub(crate) fn touch_all(&mut self, marks: &[u64], source: SourceId) -> Result<bool, AllocError>
         ensures { IfOk result (λ own. own ≡ true → TouchesMarks (owner_of self.old) marks.now source (owner_of self.new)) }
     {

@@ -66,7 +66,7 @@ fn push_pairs(
     Ok(())
 }
 
-/// Each shared key but that of the verdict, with the least pair that touches it.
+/// Each shared key but for that of the verdict, with the least pair that touches it.
 fn pairs_among(
     alloc: Global,
     schema: &Schema,
@@ -87,7 +87,7 @@ fn pairs_among(
 }
 
 impl World {
-    /// Each shared key but that of the verdict, with the least pair that touches it.
+    /// Each shared key but for that of the verdict, with the least pair that touches it.
     pub(crate) fn other_pairs(
         &self,
         alloc: Global,

@@ -1,11 +1,11 @@
-//! Marks with their sources, in parts that are looked at apart: where in each part no mark has two sources, no two sources touch a key.
+//! Marks with their sources, in parts that are examined apart: if in each part no mark has two sources, no two sources touch a key.
 ghost use Rattle.std.specs.Prelude.{◌≡◌, ◌++◌, IfOk, OnOk, map, true};
 ghost use Rattle.audit.specs.Marks.{owner_of};
 ghost use Rattle.audit.specs.Owned.{AreOwn, OwnsMore, part_of, touches_in_lists, touches_of_all, touched_by_one};
 
 use crate::gathering::usual_keys_of;
 use crate::marks::push_marks;
-use crate::owners::{Owners, is_none};
+use crate::owners::{MarkOwners, is_none};
 use gtid_text::SourceId;
 use journal::Entry;
 use rows::Schema;
@@ -16,17 +16,21 @@ pub const PARTS: usize = 4;
 
 /// The mark of a key, and the source that touches it.
 #[derive(Clone, Copy)]
-pub struct Touch {
+pub struct MarkTouch {
     pub mark: u64,
     pub source: SourceId,
 }
 
 /// Adds what a source touches.
-fn push_touches(touches: &mut Vec<Touch>, marks: &[u64], source: SourceId) -> Result<(), AllocError>
+fn push_touches(
+    touches: &mut Vec<MarkTouch>,
+    marks: &[u64],
+    source: SourceId,
+) -> Result<(), AllocError>
     ensures { OnOk result (touches.new.items ≡ touches.old.items ++ touched_by_one source marks.now) }
 {
     for mark in marks {
-        touches.push(Touch {
+        touches.push(MarkTouch {
             mark: *mark,
             source,
         })?;
@@ -34,12 +38,12 @@ fn push_touches(touches: &mut Vec<Touch>, marks: &[u64], source: SourceId) -> Re
     Ok(())
 }
 
-/// What these entries touch, in their order; a mark may occur more than once. The error: memory was refused.
+/// What these entries touch, in their order; a mark may occur more than once. The error is out of memory.
 pub fn touches_in(
     alloc: Global,
     schema: &Schema,
     entries: &[&Entry],
-) -> Result<Vec<Touch>, AllocError>
+) -> Result<Vec<MarkTouch>, AllocError>
     ensures { IfOk result (λ touches. touches.items ≡ touches_of_all schema.now (map (λ e. e.now) entries.now)) }
 {
     let usual = usual_keys_of(entries).min(entries.len().saturating_mul(16));
@@ -61,8 +65,8 @@ fn part_of(mark: u64) -> u64
     (mark >> 48) % PARTS as u64
 }
 
-/// Those of these touches whose marks are in a part come to what was touched before; whether each such mark is of one source.
-fn touch_part(owners: &mut Owners, touches: &[Touch], part: u64) -> Result<bool, AllocError>
+/// Adds the touches whose marks are in a part to what was touched before; returns whether each such mark is of one source.
+fn touch_part(owners: &mut MarkOwners, touches: &[MarkTouch], part: u64) -> Result<bool, AllocError>
     ensures { IfOk result (λ own. own ≡ true → OwnsMore part (owner_of owners.old) touches.now (owner_of owners.new)) }
 {
     for touch in touches {
@@ -80,7 +84,7 @@ fn touch_part(owners: &mut Owners, touches: &[Touch], part: u64) -> Result<bool,
 }
 
 /// About how many of these touches are in a part. (A guess.)
-fn usual_count(lists: &[Vec<Touch>]) -> usize {
+fn usual_count(lists: &[Vec<MarkTouch>]) -> usize {
     let mut count: usize = 0;
     for list in lists {
         count = count.saturating_add(list.as_slice().len());
@@ -88,11 +92,11 @@ fn usual_count(lists: &[Vec<Touch>]) -> usize {
     count / PARTS
 }
 
-/// Whether each mark that is in this part is found to be of one source in all these lists. The error: memory was refused.
-pub fn are_own(alloc: Global, lists: &[Vec<Touch>], part: usize) -> Result<bool, AllocError>
+/// Whether each mark that is in this part is found to be of one source in all these lists. The error is out of memory.
+pub fn are_own(alloc: Global, lists: &[Vec<MarkTouch>], part: usize) -> Result<bool, AllocError>
     ensures { IfOk result (λ yes. yes ≡ true → AreOwn part (touches_in_lists lists.now)) }
 {
-    let mut owners = Owners::for_marks(alloc, usual_count(lists))?;
+    let mut owners = MarkOwners::for_marks(alloc, usual_count(lists))?;
     for list in lists {
         if !touch_part(&mut owners, list, part as u64)? {
             return Ok(false);

@@ -4,10 +4,11 @@ ghost use Rattle.std.specs.FinMap as finmap;
 ghost use Rattle.world.specs.Audit.{shared};
 ghost use Rattle.world.specs.Folds.{shared_from};
 ghost use Rattle.audit.specs.Contents.{as_pair};
+ghost use Rattle.audit.specs.Firsts.{HaveNoShared};
 
 use crate::gathering::{usual_keys, usual_keys_of};
 use crate::marks::push_marks;
-use crate::owners::Owners;
+use crate::owners::MarkOwners;
 use crate::sources::World;
 use crate::touches::Touches;
 use journal::Entry;
@@ -35,12 +36,12 @@ fn first_shared(
     Ok(None)
 }
 
-/// Whether these entries, in turn, are found to touch no key that another source touched before. Keys are not made: their marks
-/// are looked for, which equal keys share.
+/// Whether these entries, in turn, are found to touch no key that another source touched before. No key is made: the search is for marks,
+/// which equal keys share.
 fn are_apart(alloc: Global, schema: &Schema, entries: &[Entry]) -> Result<bool, AllocError>
     ensures { IfOk result (λ yes. yes ≡ true → shared_from schema.now finmap.empty (map as_pair entries.now) ≡ None) }
 {
-    let mut owners = Owners::for_marks(alloc, usual_keys(entries))?;
+    let mut owners = MarkOwners::for_marks(alloc, usual_keys(entries))?;
     // (one list for the marks of each transaction)
     let mut marks = Vec::new(alloc);
     for entry in entries {
@@ -53,11 +54,11 @@ fn are_apart(alloc: Global, schema: &Schema, entries: &[Entry]) -> Result<bool, 
     Ok(true)
 }
 
-/// What `are_apart` finds, of entries that are lent: where it is true, no two sources touch a key.
+/// What `are_apart` finds of borrowed entries: if true, no two sources touch a key.
 pub fn share_no_key(alloc: Global, schema: &Schema, entries: &[&Entry]) -> Result<bool, AllocError>
-    ensures { IfOk result (λ yes. yes ≡ true → shared_from schema.now finmap.empty (map as_pair (map (λ e. e.now) entries.now)) ≡ None) }
+    ensures { IfOk result (λ yes. yes ≡ true → HaveNoShared schema.now (map (λ e. e.now) entries.now)) }
 {
-    let mut owners = Owners::for_marks(alloc, usual_keys_of(entries))?;
+    let mut owners = MarkOwners::for_marks(alloc, usual_keys_of(entries))?;
     let mut marks = Vec::new(alloc);
     for entry in entries {
         marks.clear();
@@ -70,14 +71,14 @@ pub fn share_no_key(alloc: Global, schema: &Schema, entries: &[&Entry]) -> Resul
 }
 
 impl World {
-    /// Whether sources are found to touch no key in common. It looks for the mark of each key once.
+    /// Whether sources are found to touch no key in common. The mark of each key is looked up once.
     fn are_apart(&self, alloc: Global) -> Result<bool, AllocError>
         ensures { IfOk result (λ yes. yes ≡ true → shared self.now ≡ None) }
     {
         are_apart(alloc, self.rows().schema(), self.in_order())
     }
 
-    /// What `find_shared` finds; it is fastest where that is nothing.
+    /// What `find_shared` finds; it is fastest if that is nothing.
     pub(crate) fn shared_unless_apart(&self, alloc: Global) -> Result<Option<Verdict>, AllocError>
         ensures { IfOk result (λ found. found ≡ shared self.now) }
     {
@@ -87,7 +88,7 @@ impl World {
         self.find_shared(alloc)
     }
 
-    /// The least GTID that shares a key with a smaller source, with the least that touches it.
+    /// The least GTID that shares a key with a smaller source, with the least GTID that touches that key.
     pub(crate) fn find_shared(&self, alloc: Global) -> Result<Option<Verdict>, AllocError>
         ensures { IfOk result (λ found. found ≡ shared self.now) }
     {

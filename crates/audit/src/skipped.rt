@@ -103,7 +103,7 @@ impl World {
         }
     }
 
-    /// The missing GTIDs. Where journals are in order there is none, and nothing is looked for.
+    /// The missing GTIDs. If journals are in order, there is none, and there is no search.
     fn missing_set(
         &self,
         alloc: Global,

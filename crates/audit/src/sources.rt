@@ -33,7 +33,7 @@ impl Drop for World {
 }
 
 impl Model for World {
-    ghost use Rattle.source_history.specs.World.{World};
+    ghost use Rattle.history.specs.Sources.{World};
     ghost use Rattle.audit.specs.Contents.{in_order, world_code};
     ghost use Rattle.audit.specs.Worlds.{AllFit, LieBeyond};
 
@@ -88,7 +88,7 @@ impl World {
 /// Why journals have no world.
 #[derive(Clone, Copy, Debug, Drop, PartialEq, Eq)]
 pub enum WorldFault {
-    /// Memory was refused.
+    /// Out of memory.
     Memory,
     /// The schema does not take the transaction of this GTID.
     NotInSchema(Gtid, NotInSchema),
@@ -143,7 +143,8 @@ pub fn world_of(
     }
 }
 
-/// The world of journals over an opening set and rows whose schema takes each transaction beyond that set. This is not tested again.
+/// The world of journals over an opening set and rows whose schema takes each transaction beyond that set. Whether it does is not tested
+/// again.
 pub fn world_of_fitting(
     alloc: Global,
     opened: &GtidSet,

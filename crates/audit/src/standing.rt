@@ -9,11 +9,11 @@ use std::marker::Model;
 
 /// A set of single GTIDs, of any number of sources.
 #[derive(Drop)]
-pub(crate) struct Standing {
+pub(crate) struct GtidTable {
     table: KeySet<Gtid>,
 }
 
-impl Model for Standing {
+impl Model for GtidTable {
     ghost use Rattle.std.specs.FinSet as set;
     ghost use Rattle.gtid_set.specs.Sets.{Gtids, gtids_code};
 
@@ -24,11 +24,11 @@ impl Model for Standing {
     ghost view = { λ a. set.from_list a.table.keys };
 }
 
-impl Standing {
+impl GtidTable {
     pub(crate) fn new(alloc: Global) -> Self
         ensures { result ≡ set.empty }
     {
-        Standing {
+        GtidTable {
             table: KeySet::new(alloc),
         }
     }

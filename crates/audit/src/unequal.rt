@@ -11,7 +11,7 @@ use journal::{Entry, Journal};
 use world::Verdict;
 
 impl World {
-    /// Whether the world has this transaction under this GTID, which is looked for at its source's guess first.
+    /// Whether the world has this transaction under this GTID. The search begins at its source's guess.
     fn has(&self, guesses: &mut Guesses, entry: &Entry) -> bool
         ensures { result ≡ is_content self.now entry.now }
     {
@@ -39,8 +39,8 @@ impl World {
         None
     }
 
-    /// The first entry, in order of journals and entries, whose transaction is not the world's. Where a
-    /// journal has the transactions of a source one after another, each is found at its first guess.
+    /// The first entry, in order of journals and entries, whose transaction is not the world's. If a journal has the transactions of a
+    /// source one after another, each is found at its first guess.
     pub(crate) fn find_unequal(&self, journals: &[Journal]) -> Option<Verdict>
         ensures { result ≡ unequal self.now journals.now }
     {

@@ -10,6 +10,7 @@ use Rattle.std.proofs.lemmas.List.{map-append, take_all, take-append-drop}
 use Rattle.std.proofs.lemmas.Bool.Decides.{nat_tests}
 use Rattle.std.specs.Ordering.{eq_by_cmp}
 use Rattle.std.specs.FinSet as set
+use Rattle.lemmas.proofs.SameGtid.{gtid_total, gtid_exact}
 use Rattle.gtid_text.specs.declared.Gtid.{Gtid}
 use Rattle.gtid_text.specs.Gtids.{gtid_cmp}
 use Rattle.gtid_set.specs.declared.fault.SetFault.{SetFault}
@@ -26,7 +27,6 @@ use Rattle.journal.specs.declared.Entry.{Entry}
 use Rattle.journal.specs.Journals.{JournalValue, gtids_of, whole}
 use Rattle.auto_position.specs.Sending.{numbers_of, own_of, is_wanted, sent, HasPlanEdges, IsEntriesFault, IsPlanFault}
 use Rattle.auto_position.specs.declared.PositionFault.TheVariants.{ReplicaHasMore}
-use Rattle.gtid_text.proofs.SameGtid.{gtid_total, gtid_exact}
 
 -- the members of one source
 contains-only : (s : Gtids) (source : ℕ) (g : Gtid) → set.contains (only s source) g ≡ (set.contains s g && (g.source == source))

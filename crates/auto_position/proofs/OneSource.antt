@@ -13,14 +13,14 @@ use Rattle.gtid_set.proofs.SetLemmas.{has_itself, gtid_tied}
 use Rattle.gtid_set.proofs.SetSources.{no_sources, number_of_source, source_known, sources_with_interval, union_one}
 use Rattle.gtid_set.proofs.EdgeLemmas.{crowd_fault, members_edges}
 use Rattle.gtid_set.proofs.FaultLemmas.{full_fault, fault_map}
-use Rattle.gtid_text.proofs.SameGtid.{gtid_total, same_is_equal}
 use Rattle.journal.specs.declared.Entry.{Entry}
 use Rattle.journal.specs.Journals.{gtids_of}
 use Rattle.journal.specs.Edges.{HasEndsOf}
 use Rattle.auto_position.specs.Sending.{IsEntriesFault}
 use Rattle.std.specs.List.{list_any}
 use Rattle.std.proofs.lemmas.Bool.{or_cases}
-use Rattle.rows.proofs.Patching.{not_true}
+use Rattle.lemmas.proofs.Tests.{not_true}
+use Rattle.lemmas.proofs.SameGtid.{gtid_total, same_is_equal}
 
 -- so many sources, with one more
 abbrev pub count_and : Gtids → ℕ → ℕ

@@ -13,7 +13,7 @@ use Rattle.journal.specs.Edges.{HasEndsOf, HasEdgesOf}
 use Rattle.auto_position.specs.declared.PositionFault.{PositionFault}
 use Rattle.auto_position.specs.declared.PositionFault.TheVariants.{PurgedRequired, ReplicaHasMore, Set}
 
--- the source's own GTIDs that are asked with, where its UUID is given
+-- the source's own GTIDs that are asked with, if its UUID is given
 abbrev pub own_of : Gtids → Option ℕ → Gtids
 own_of ask None = set.empty
 own_of ask (Some own) = only ask own
@@ -31,8 +31,8 @@ places_from test place (e ∷ es) = if test e then place ∷ places_from test (p
 abbrev pub numbers_of : ℕ → List Entry → List ℕ
 numbers_of source entries = map (λ e. e.gtid.number) (filter (λ e. e.gtid.source == source) entries)
 
--- What is sent: nothing where what is missing was purged, nor where the replica has GTIDs of this source that it has no record of
--- (that these are named, and are tested second, is our own); else the entries that aren't asked with, in journal order.
+-- What is sent: nothing if what is missing was purged, nor if the replica has GTIDs of this source that it has no record of (that these are
+-- named, and are tested second, is our own); else the entries that aren't asked with, in journal order.
 abbrev pub sent : JournalValue → Gtids → Option ℕ → Result (List Entry) PositionFault
 sent journal ask own =
     if not (set.is_subset journal.previous ask) then Err (PurgedRequired (set.difference journal.previous ask))
@@ -58,12 +58,12 @@ pub record HasPlanEdges (journal : JournalValue) (ask : Gtids) (places : Gtids) 
   pub asked : HasEdges places ask
   pub journal_edges : HasEdgesOf places journal
 
--- the set of some entries was not made: memory was refused, or these have too many intervals
+-- the set of some entries was not made: out of memory, or these have too many intervals
 abbrev pub IsEntriesFault : List Entry → SetFault → Type 0
 IsEntriesFault entries f = IsMemoryOr ⊥ (IsCrowd (λ places. HasEndsOf places entries)) f
 
--- A set was not made on the way: memory was refused, or the intervals of the set that is asked with and of the journal's sets and entries
--- are together too many. None of them has a source that neither the set that is asked with nor the previous set has.
+-- A set was not made on the way: out of memory, or the intervals of the set that is asked with and of the journal's sets and entries are
+-- together too many. None of them has a source that neither the set that is asked with nor the previous set has.
 abbrev pub IsPlanFault : JournalValue → Gtids → SetFault → Type 0
 IsPlanFault journal ask f = IsMemoryOr ⊥ (IsCrowd (HasPlanEdges journal ask)) f
 

@@ -8,7 +8,7 @@
 //! What a contract sees: the journal, the set that is asked with, and one definition, `sent` (`specs/Sending`), by which runs and
 //! networks also define what a channel receives.
 //!
-//! Not proved: speed. By the code each entry is looked for once in the set, and the entries of the own UUID are sorted once.
+//! Not proved: speed. By the code each entry is looked up once in the set, and the entries of the own UUID are sorted once.
 #![tactic(auto)]
 
 ghost use Rattle.std.specs.Prelude.{◌≡◌, ◌==◌, IfOk, IfErr};
@@ -29,8 +29,8 @@ pub enum PositionFault {
     PurgedRequired(GtidSet),
     /// GTIDs of this source that the replica has and the journal has no record of.
     ReplicaHasMore(GtidSet),
-    /// A set was not made: memory was refused, or there are too many intervals (`PoolFull`). `SourcesFull` never comes: each set has one
-    /// source, or is part of a set that is there.
+    /// A set was not made: out of memory, or too many intervals (`PoolFull`). `SourcesFull` never comes: each set has one source, or is
+    /// part of a set that is there.
     Set(SetFault),
 }
 
@@ -105,13 +105,13 @@ fn unknown_gtids(
     unpurged.subtract(alloc, &recorded)
 }
 
-/// The places in the journal, ascending, of the entries that the source sends to a replica that asks with a set:
-/// those whose GTID is not in it. `own` is the source's own UUID, where it has one.
+/// The places in the journal, ascending, of the entries that the source sends to a replica that asks with a set: those whose GTID is not in
+/// it. `own` is the source's own UUID, if it has one.
 ///
-/// It refuses where an entry that should be sent was purged, and else where the replica has GTIDs of this source
-/// that the journal has no record of. From the MySQL 8.0 Reference Manual, "GTID Auto-Positioning"; the order of
-/// the refusals, and that the second names the GTIDs, are our own. `PoolFull` comes only where the intervals of the set that is asked
-/// with, those of the previous set and the entries are together more than 4,294,967,294. It takes n log n steps at worst.
+/// It refuses if an entry that should be sent was purged, and else if the replica has GTIDs of this source that the journal has no record
+/// of. From the MySQL 8.0 Reference Manual, "GTID Auto-Positioning"; the order of the refusals, and that the second names the GTIDs, are
+/// our own. `PoolFull` comes only if the intervals of the set that is asked with, those of the previous set and the entries are together
+/// more than 4,294,967,294. It takes n log n steps at worst.
 pub fn plan(
     alloc: Global,
     own: Option<SourceId>,
@@ -137,7 +137,7 @@ pub fn plan(
     Ok(places)
 }
 
-/// The places of the entries that aren't asked with.
+/// The places of the entries whose GTIDs are not in the set that is asked with.
 fn places(alloc: Global, entries: &[Entry], ask: &GtidSet) -> Result<Vec<u64>, AllocError>
     ensures { IfOk result (λ v. v.items ≡ places_from (is_wanted ask.now) 0 entries.now) }
 {

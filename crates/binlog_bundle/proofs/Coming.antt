@@ -1,6 +1,7 @@
 -- Channels that come, one after another.
 use Rattle.std.proofs.Common.{◌≡◌, ◌≢◌, ℕ, true, List, [], ◌∷◌, ◌++◌, Option, Some, None, codes, refl, sym, ap, ◌∙◌, subst, append_assoc, append-nil, inl, inr, slice_get, ◌≤◌, length, arith}
 use Rattle.std.specs.List.{flat_map}
+use Rattle.lemmas.proofs.Lists.{all_push}
 use Rattle.gtid_set.specs.Sets.{Gtids}
 use Rattle.gtid_set.specs.declared.fault.SetFault.{SetFault}
 use Rattle.gtid_set.specs.declared.fault.SetFault.TheVariants.{Memory, PoolFull, SourcesFull}
@@ -23,7 +24,7 @@ use Rattle.binlog_bundle.specs.declared.fault.ChannelFault.{ChannelFault}
 use Rattle.binlog_bundle.specs.declared.fault.ChannelFault.TheVariants as channels
 use Rattle.binlog_bundle.specs.declared.channels.ImportProgress.{ImportProgress}
 use Rattle.binlog_bundle.specs.declared.grants.Grants.{Grants}
-use Rattle.binlog_bundle.proofs.Cutting.{all_more, done_begins}
+use Rattle.binlog_bundle.proofs.Cutting.{done_begins}
 use Rattle.binlog_bundle.proofs.Counting.{as_many_journals}
 use Rattle.binlog_bundle.proofs.Feeding.{is_taken, refused_more}
 
@@ -42,7 +43,7 @@ part_more f head text cs c e =
 
 stands_more : (grants : Grants) (head plain text written : List ℕ) (cs : List ImportedLog) (c : ImportedLog) → Corresponds grants head plain cs text written → IsImported grants plain c → Corresponds grants head plain (cs ++ c ∷ []) (text ++ log_text c) (written ++ journal_text c)
 stands_more grants head plain text written cs c h imported = record {
-  imported = all_more (IsImported grants plain) cs c h.imported imported;
+  imported = all_push (IsImported grants plain) cs c h.imported imported;
   text_is = part_more log_text head text cs c h.text_is;
   written_is = part_more journal_text plain written cs c h.written_is;
 }

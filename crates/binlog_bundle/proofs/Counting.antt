@@ -6,6 +6,7 @@ use Rattle.std.proofs.lemmas.Bool.{and_parts}
 use Rattle.std.proofs.lemmas.List.{append_cancel_right}
 use Rattle.std.proofs.lemmas.Slice.Eq.{starts_is}
 use Rattle.std.proofs.lemmas.Bool.Decides.{Decides-eqb}
+use Rattle.lemmas.proofs.Tests.{false_from_not}
 use Rattle.gtid_set.specs.Sets.{Gtids}
 use Rattle.rows.specs.declared.change.Change.TheVariants.{Insert, Delete, Update}
 use Rattle.rows.specs.declared.change.TableRow.{TableRow}
@@ -159,21 +160,17 @@ other_begins (Inner (Makes (Update table before after))) ys = none_counted (is_c
 other_begins (Inner End) ys = none_counted (is_channel (bundle_line_text (Inner End) ++ 10 ∷ ys)) refl
 other_begins (Inner Close) ys = none_counted (is_channel (bundle_line_text (Inner Close) ++ 10 ∷ ys)) refl
 
-no_feed : (v : Bool) → not v ≡ true → v ≡ false
-no_feed true e = absurd cc
-no_feed false e = refl
-
 within_line : (text ys : List ℕ) → IsOneLine text → lines_with false (text ++ 10 ∷ ys) ≡ lines_with true ys
 within_line [] ys one = refl
 within_line (b ∷ bs) ys one =
     let p = and_parts (not (eqb b 10)) (list_all (λ x. not (eqb x 10)) bs) one in
-    ap (λ (v : Bool). lines_with v (bs ++ 10 ∷ ys)) (no_feed (eqb b 10) p.0) ∙ within_line bs ys p.1
+    ap (λ (v : Bool). lines_with v (bs ++ 10 ∷ ys)) (false_from_not (eqb b 10) p.0) ∙ within_line bs ys p.1
 
 one_line_counts : (text ys : List ℕ) → IsOneLine text → lines_with true (text ++ 10 ∷ ys) ≡ counted (is_channel (text ++ 10 ∷ ys)) + lines_with true ys
 one_line_counts [] ys one = refl
 one_line_counts (b ∷ bs) ys one =
     let p = and_parts (not (eqb b 10)) (list_all (λ x. not (eqb x 10)) bs) one in
-    ap (λ (k : ℕ). counted (is_channel ((b ∷ bs) ++ 10 ∷ ys)) + k) (ap (λ (v : Bool). lines_with v (bs ++ 10 ∷ ys)) (no_feed (eqb b 10) p.0) ∙ within_line bs ys p.1)
+    ap (λ (k : ℕ). counted (is_channel ((b ∷ bs) ++ 10 ∷ ys)) + k) (ap (λ (v : Bool). lines_with v (bs ++ 10 ∷ ys)) (false_from_not (eqb b 10) p.0) ∙ within_line bs ys p.1)
 
 text_counts : (ls : List BundleLine) → AllByRecursion IsOneLine (map bundle_line_text ls) → lines_with true (bundle_text ls) ≤ opened ls
 text_counts [] whole = least 0

@@ -3,6 +3,7 @@ use Rattle.std.proofs.Common.{◌≡◌, ◌||◌, ℕ, eqb, not, Bool, true, fa
 use Rattle.std.specs.List.{flat_map, list_all, AllByRecursion}
 use Rattle.std.specs.Str.{bytes_eq}
 use Rattle.std.proofs.lemmas.Bool.{and_parts}
+use Rattle.lemmas.proofs.Lists.{all_push, same_parts}
 use Rattle.rows.specs.declared.schema.Table.{Table}
 use Rattle.txn_journal.specs.Words.{IsOneLine, BeginsWithLine}
 use Rattle.binlog_text.proofs.LinesFound.{same_text}
@@ -17,10 +18,6 @@ pub record HasPassed (P : List ℕ → Type 0) (text left : List ℕ) : Type 0 w
   pub parts : text ≡ flat_map with_line_feed lines ++ left
   pub all : AllByRecursion P lines
 
-pub all_more : {X : Type 0} (P : X → Type 0) (xs : List X) (x : X) → AllByRecursion P xs → P x → AllByRecursion P (xs ++ x ∷ [])
-all_more P [] x h p = (p, tt)
-all_more P (y ∷ ys) x h p = (h.0, all_more P ys x h.1 p)
-
 pub line_ends : (line after : List ℕ) → line ++ 10 ∷ after ≡ with_line_feed line ++ after
 line_ends line after = sym (append_assoc line (10 ∷ []) after)
 
@@ -32,7 +29,7 @@ passed_more P text left line after h begins holds = record {
       ∙ ap (λ (xs : List ℕ). flat_map with_line_feed h.lines ++ xs) (begins.parts ∙ line_ends line after)
       ∙ sym (append_assoc (flat_map with_line_feed h.lines) (with_line_feed line) after)
       ∙ ap (λ (xs : List ℕ). xs ++ after) (sym (flat_map_more with_line_feed h.lines line));
-  all = all_more P h.lines line h.all holds;
+  all = all_push P h.lines line h.all holds;
 }
 
 -- a text is split where so much is left
@@ -83,15 +80,12 @@ not_feed bs one = cc
 line_rest : (c : ℕ) (line : List ℕ) → IsOneLine (c ∷ line) → IsOneLine line
 line_rest c line one = (and_parts (not (eqb c 10)) (list_all (λ b. not (eqb b 10)) line) one).1
 
-same_head : (c d : ℕ) (xs ys : List ℕ) → c ∷ xs ≡ d ∷ ys → (c ≡ d) × (xs ≡ ys)
-same_head c d xs ys e = (cc, cc)
-
 pub first_same : (a b x y : List ℕ) → IsOneLine a → IsOneLine b → a ++ 10 ∷ x ≡ b ++ 10 ∷ y → (a ≡ b) × (x ≡ y)
-first_same [] [] x y one two e = (refl, (same_head 10 10 x y e).1)
-first_same [] (d ∷ b) x y one two e = absurd (not_feed b (subst (λ (c : ℕ). IsOneLine (c ∷ b)) (sym (same_head 10 d x (b ++ 10 ∷ y) e).0) two))
-first_same (c ∷ a) [] x y one two e = absurd (not_feed a (subst (λ (d : ℕ). IsOneLine (d ∷ a)) (same_head c 10 (a ++ 10 ∷ x) y e).0 one))
+first_same [] [] x y one two e = (refl, (same_parts 10 10 x y e).1)
+first_same [] (d ∷ b) x y one two e = absurd (not_feed b (subst (λ (c : ℕ). IsOneLine (c ∷ b)) (sym (same_parts 10 d x (b ++ 10 ∷ y) e).0) two))
+first_same (c ∷ a) [] x y one two e = absurd (not_feed a (subst (λ (d : ℕ). IsOneLine (d ∷ a)) (same_parts c 10 (a ++ 10 ∷ x) y e).0 one))
 first_same (c ∷ a) (d ∷ b) x y one two e =
-    let s = same_head c d (a ++ 10 ∷ x) (b ++ 10 ∷ y) e in
+    let s = same_parts c d (a ++ 10 ∷ x) (b ++ 10 ∷ y) e in
     let r = first_same a b x y (line_rest c a one) (line_rest d b two) s.1 in
     ((λ i. s.0 i ∷ r.0 i), r.1)
 

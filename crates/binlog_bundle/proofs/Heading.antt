@@ -4,6 +4,8 @@ use Rattle.std.specs.Prelude.{◌&&◌, ◌||◌, nat_eq, nat_le, if◌then◌el
 use Rattle.std.specs.List.{starts_with, flat_map, AllByRecursion}
 use Rattle.std.proofs.lemmas.Slice.Eq.{starts_is}
 use Rattle.std.proofs.lemmas.Bool.Decides.{Decides-eqb, nat_tests}
+use Rattle.lemmas.proofs.Lists.{all_push}
+use Rattle.lemmas.proofs.Numbers.{le_false}
 use Rattle.txn_journal.specs.Words.{IsOneLine, BeginsWithLine}
 use Rattle.binlog_entries.proofs.TransactionLaws.{flat_map_more}
 use Rattle.binlog_bundle.specs.Lines.{with_line_feed, AreLines}
@@ -12,7 +14,7 @@ use Rattle.binlog_bundle.specs.Heads.{is_unsupported, is_granted, plain_text, li
 use Rattle.binlog_bundle.specs.declared.head.HeadFault.{HeadFault}
 use Rattle.binlog_bundle.specs.declared.head.HeadFault.TheVariants as heads
 use Rattle.binlog_bundle.specs.declared.grants.Grants.{Grants}
-use Rattle.binlog_bundle.proofs.Cutting.{all_more, line_ends, begins_same, no_first}
+use Rattle.binlog_bundle.proofs.Cutting.{line_ends, begins_same, no_first}
 
 -- ---- lines
 
@@ -41,10 +43,6 @@ pub key_line : (grants : Grants) (line what key : List ℕ) → line ≡ codes "
 key_line grants line what key e h =
     let is : codes "unsupported " ++ (codes "foreign-key " ++ key) ≡ line = ap (λ (xs : List ℕ). codes "unsupported " ++ xs) (sym h.1) ∙ sym e in
     subst (λ (l : List ℕ). TakesKey grants l key) is (key_here grants key h.0)
-
-pub not_false : (b : Bool) → not b ≡ false → b ≡ true
-not_false true e = refl
-not_false false e = absurd cc
 
 and_never : (b : Bool) → b && false ≡ false
 and_never true = refl
@@ -80,7 +78,7 @@ head_more grants head left line after text notes text_new notes_new h begins gra
       ∙ ap (λ (xs : List ℕ). flat_map with_line_feed h.lines ++ xs) (begins.parts ∙ line_ends line after)
       ∙ sym (append_assoc (flat_map with_line_feed h.lines) (with_line_feed line) after)
       ∙ ap (λ (xs : List ℕ). xs ++ after) (sym (flat_map_more with_line_feed h.lines line));
-  granted = all_more (IsGranted grants) h.lines line h.granted (begins.whole, granted);
+  granted = all_push (IsGranted grants) h.lines line h.granted (begins.whole, granted);
   text_is = all_of plain_text text text_new h.lines line h.text_is t;
   notes_are = all_of line_note notes notes_new h.lines line h.notes_are n;
 }
@@ -146,9 +144,6 @@ skip_other line ls due e f = λ i. if e i then skipped ls due + 1 else (if f i t
 
 le_true : (a b : ℕ) → a ≤ b → nat_le a b ≡ true
 le_true a b h = grind (arith, nat_tests)
-
-le_false : (a b : ℕ) → b < a → nat_le a b ≡ false
-le_false a b h = grind (arith, nat_tests)
 
 -- a line and its line feed are gone
 pub shorter : (count : ℕ) (head left line after : List ℕ) → count + length left ≤ length head → BeginsWithLine left line after → (count + 1) + length after ≤ length head

@@ -3,13 +3,10 @@ use Rattle.std.proofs.Common.{◌≡◌, ◌≢◌, ℕ, zero, suc, ◌<◌, ◌
 use Rattle.std.specs.Prelude.{◌&&◌}
 use Rattle.std.specs.List.{list_all}
 use Rattle.std.proofs.lemmas.Bool.{eqb-true, and_parts}
+use Rattle.lemmas.proofs.Lists.{same_behind, same_parts}
 use Rattle.txn_journal.specs.BundleText.{preserve_text}
 use Rattle.binlog_bundle.specs.Executed.{IsWord, channel_text, SaysExecuted, IsCutLine, IsBehindName, NoName, IsExecuted, NoExecuted}
 use Rattle.binlog_bundle.proofs.Cutting.{SplitsAt}
-
-pub same_behind : (p a b : List ℕ) → p ++ a ≡ p ++ b → a ≡ b
-same_behind [] a b e = e
-same_behind (x ∷ p) a b e = same_behind p a b (ap (λ (l : List ℕ). drop 1 l) e)
 
 -- ---- words
 
@@ -72,14 +69,11 @@ word_rest c word h = (and_parts (not (eqb c 32)) (list_all (λ b. not (eqb b 32)
 no_word : (bs : List ℕ) → IsWord (32 ∷ bs) → ⊥
 no_word bs h = cc
 
-same_head : (c d : ℕ) (xs ys : List ℕ) → c ∷ xs ≡ d ∷ ys → (c ≡ d) × (xs ≡ ys)
-same_head c d xs ys e = (cc, cc)
-
 same_words : (a b x y : List ℕ) → IsWord a → IsWord b → a ++ 32 ∷ x ≡ b ++ 32 ∷ y → x ≡ y
-same_words [] [] x y one two e = (same_head 32 32 x y e).1
-same_words [] (d ∷ b) x y one two e = absurd (no_word b (subst (λ (c : ℕ). IsWord (c ∷ b)) (sym (same_head 32 d x (b ++ 32 ∷ y) e).0) two))
-same_words (c ∷ a) [] x y one two e = absurd (no_word a (subst (λ (d : ℕ). IsWord (d ∷ a)) (same_head c 32 (a ++ 32 ∷ x) y e).0 one))
-same_words (c ∷ a) (d ∷ b) x y one two e = same_words a b x y (word_rest c a one) (word_rest d b two) (same_head c d (a ++ 32 ∷ x) (b ++ 32 ∷ y) e).1
+same_words [] [] x y one two e = (same_parts 32 32 x y e).1
+same_words [] (d ∷ b) x y one two e = absurd (no_word b (subst (λ (c : ℕ). IsWord (c ∷ b)) (sym (same_parts 32 d x (b ++ 32 ∷ y) e).0) two))
+same_words (c ∷ a) [] x y one two e = absurd (no_word a (subst (λ (d : ℕ). IsWord (d ∷ a)) (same_parts c 32 (a ++ 32 ∷ x) y e).0 one))
+same_words (c ∷ a) (d ∷ b) x y one two e = same_words a b x y (word_rest c a one) (word_rest d b two) (same_parts c d (a ++ 32 ∷ x) (b ++ 32 ∷ y) e).1
 
 -- what follows the name in a line that says what was executed
 abbrev said_behind : Bool → List ℕ → List ℕ

@@ -88,7 +88,7 @@ pub record FeedsChannel (grants : Grants) (start : BundleValue) (line log : List
   pub note_is : note ≡ notes_for start own varied executed
   pub noted : IsNoted old new note
 
--- It is this fault, and where that names a line, no line of the log maps a table that is none of these; or one does, and it is the first.
+-- It is this fault, and if that names a line, no line of the log maps a table that is none of these; or one does, and it is the first.
 abbrev pub IsJournalFault : List Table → List ℕ → JournalFault → ChannelFault → Type 0
 IsJournalFault tables log fault (channels.Own other) = ⊥
 IsJournalFault tables log fault channels.Unknown = ⊥
@@ -114,12 +114,12 @@ pub record IsLineTaken (line before own : List ℕ) (word : Option (List ℕ)) :
   pub cut : IsCutLine line own word
   pub taken : IsTaken (before ++ with_line_feed own)
 
--- the same where that is a set, or granted
+-- the same if that is a set, or granted
 pub record IsSaidTaken (grants : Grants) (line before own : List ℕ) (executed : Option Gtids) : Type 0 where
   pub says : HadExecuted grants line own executed
   pub taken : IsTaken (before ++ with_line_feed own)
 
--- Why the line of a channel isn't taken after these bytes, or what it says was executed; or memory was refused.
+-- Why the line of a channel isn't taken after these bytes, or what it says was executed; or out of memory.
 pub data CantTake (grants : Grants) (start : BundleValue) (line before : List ℕ) (fault : JournalFault) : Type 0 where
   NoMemory : fault ≡ faults.Set Memory → CantTake grants start line before fault
   Stops : (own : List ℕ) (word : Option (List ℕ)) → IsCutLine line own word → StopsAt fault (before ++ with_line_feed own) → CantTake grants start line before fault

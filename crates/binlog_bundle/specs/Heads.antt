@@ -18,14 +18,14 @@ is_unsupported line = starts_with nat_eq line (codes "unsupported ")
 abbrev pub is_foreign_key : List ℕ → Bool
 is_foreign_key line = starts_with nat_eq line (codes "unsupported foreign-key ")
 
--- a line of the bundle; or one that names a foreign key, where that is granted
+-- a line of the bundle; or one that names a foreign key, if that is granted
 abbrev pub is_granted : Grants → List ℕ → Bool
 is_granted grants line = not (is_unsupported line) || (grants.without_foreign_keys && is_foreign_key line)
 
 abbrev pub IsGranted : Grants → List ℕ → Type 0
 IsGranted grants line = IsOneLine line × (is_granted grants line ≡ true)
 
--- the line, where it is one of the bundle
+-- the line, if it is one of the bundle
 abbrev pub plain_text : List ℕ → List ℕ
 plain_text line = if is_unsupported line then [] else with_line_feed line
 

@@ -1,5 +1,5 @@
 -- Lines of a bundle among those of logs.
-use Rattle.std.specs.Prelude.{◌≡◌, ◌≢◌, ℕ, ◌==◌, ◌||◌, Bool, true, false, List, [], ◌∷◌, ◌++◌, codes, nat_eq}
+use Rattle.std.specs.Prelude.{◌≡◌, ◌≢◌, ℕ, ◌==◌, ◌||◌, Bool, true, false, List, [], ◌∷◌, ◌++◌, codes, length, nat_eq}
 use Rattle.std.specs.List.{starts_with, count_by, flat_map, AllByRecursion}
 use Rattle.std.specs.Str.{bytes_eq}
 use Rattle.gtid_set.specs.Sets.{Gtids}
@@ -56,3 +56,11 @@ pub record IsCut (text front rest : List ℕ) : Type 0 where
 -- the text of a log, whatever it means
 abbrev pub IsSomeLog : List ℕ → Type 0
 IsSomeLog text = (opening : Gtids) × (previous : Gtids) × (entries : List Entry) × (varied : List Varied) × IsLog opening text previous entries varied
+
+-- what comes before this many last bytes, and these
+abbrev pub IsSplit : List ℕ → ℕ → List ℕ → List ℕ → Type 0
+IsSplit text left a b = (front rest : List ℕ) → text ≡ front ++ rest → left ≡ length rest → (a ≡ front) × (b ≡ rest)
+
+-- the first line with its line feed, if the text begins with one, and what comes after it
+abbrev pub IsFirstLine : List ℕ → List ℕ → List ℕ → Type 0
+IsFirstLine text a b = (line after : List ℕ) → BeginsWithLine text line after → (a ≡ with_line_feed line) × (b ≡ after)

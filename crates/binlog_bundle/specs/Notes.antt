@@ -58,7 +58,7 @@ executed_note channel opened (Some executed) = opening_note channel opened execu
 abbrev pub notes_for : BundleValue → List ℕ → List ℕ → Option Gtids → List ℕ
 notes_for start line varied executed = bytes_notes (name_in line) start.start.schema varied ++ executed_note (name_in line) start.opened executed
 
--- why a note is not made: memory was refused, or what wasn't executed of the opening set has too many intervals
+-- why a note is not made: out of memory, or what wasn't executed of the opening set has too many intervals
 abbrev pub IsNoteFault : SetFault → Gtids → Option Gtids → Type 0
 IsNoteFault fault opened None = fault ≡ Memory
 IsNoteFault fault opened (Some executed) = IsFaultOf fault (set.difference opened executed)

@@ -1,5 +1,5 @@
 -- What is no bundle of logs.
-use Rattle.std.specs.Prelude.{◌≡◌, ◌⊎◌, ℕ, true, false, List, [], ◌∷◌, ◌++◌, Option, Some, None, Err}
+use Rattle.std.specs.Prelude.{◌≡◌, ◌⊎◌, ℕ, true, false, List, [], ◌∷◌, ◌++◌, Option, Some, None, Result, Err, IfOk, IfErr, OnOk}
 use Rattle.gtid_set.specs.Full.{IsFaultOf, IsMemoryOr}
 use Rattle.gtid_set.specs.Sets.{Gtids}
 use Rattle.gtid_set.specs.declared.fault.SetFault.{SetFault}
@@ -26,6 +26,7 @@ use Rattle.binlog_bundle.specs.declared.fault.BundleFault.{BundleFault}
 use Rattle.binlog_bundle.specs.declared.fault.BundleFault.TheVariants as bundles
 use Rattle.binlog_bundle.specs.declared.fault.ChannelFault.{ChannelFault}
 use Rattle.binlog_bundle.specs.declared.fault.ChannelFault.TheVariants as channels
+use Rattle.txn_journal.specs.BundleText.{WritesBundle}
 
 -- ---- faults
 
@@ -77,6 +78,20 @@ IsRefused (faults.Set fault) bytes = RefusesBundle (faults.Set fault) bytes
 IsRefused (faults.Line n cause) bytes = RefusesBundle (faults.Line n cause) bytes × (closing_bundle (feed_bundle_bytes (bundle_start None) bytes) ≡ Err (faults.Line n cause))
 IsRefused (faults.Truncated n) bytes = RefusesBundle (faults.Truncated n) bytes × (closing_bundle (feed_bundle_bytes (bundle_start None) bytes) ≡ Err (faults.Truncated n))
 
+-- a piece more: after all bytes that were taken before it, it is taken, or else refused
+abbrev pub TakesMore : {A : Type 0} → Result A JournalFault → Progress BundleStanding → Progress BundleStanding → List ℕ → Type 0
+TakesMore result old new piece = (before : List ℕ) → IsFed old before → OnOk result (IsFed new (before ++ piece))
+
+abbrev pub StopsIn : {A : Type 0} → Result A JournalFault → Progress BundleStanding → List ℕ → Type 0
+StopsIn result old piece = (before : List ℕ) → IsFed old before → IfErr result (λ fault. StopsAt fault (before ++ piece))
+
+-- the last piece: with all bytes before it, it is the text of this bundle, or else refused
+abbrev pub EndsBundle : Result BundleValue JournalFault → Progress BundleStanding → List ℕ → Type 0
+EndsBundle result old piece = (before : List ℕ) → IsFed old before → IfOk result (λ b. WritesBundle (before ++ piece) b)
+
+abbrev pub EndsRefused : {A : Type 0} → Result A JournalFault → Progress BundleStanding → List ℕ → Type 0
+EndsRefused result old piece = (before : List ℕ) → IsFed old before → IfErr result (λ fault. IsRefused fault (before ++ piece))
+
 -- it names a line
 abbrev pub IsOfLine : JournalFault → Type 0
 IsOfLine (faults.Set fault) = ⊥
@@ -85,12 +100,12 @@ IsOfLine (faults.Truncated n) = ⊥
 
 -- ---- the text
 
--- what is read with a head: nothing where nothing comes after it, and else the end of a bundle
+-- what is read with a head: nothing if nothing comes after it, and else the end of a bundle
 abbrev pub end_for : List ℕ → List ℕ
 end_for [] = []
 end_for (b ∷ bs) = done_line
 
--- The plain head, with the end of a bundle after it where anything comes, is none; the fault is counted over the lines of the head.
+-- The plain head, with the end of a bundle after it if anything comes, is none; the fault is counted over the lines of the head.
 pub record IsNoHead (grants : Grants) (fault : JournalFault) (text : List ℕ) : Type 0 where
   pub head : List ℕ
   pub rest : List ℕ
@@ -109,7 +124,8 @@ pub record HasUnsupported (grants : Grants) (what text : List ℕ) : Type 0 wher
   pub cut : IsCut text head rest
   pub first : IsUnsupported grants what head
 
--- All but what is left of the text has come: the head and whole channels, and nothing is wrong with them where the journals are in the place of the logs.
+-- All but what is left of the text has come: the head and whole channels, and nothing is wrong with them if the journals are in the place
+-- of the logs.
 pub record HasTaken (grants : Grants) (head plain front written left text : List ℕ) : Type 0 where
   pub alone : HasNoOwn head
   pub notes : List ℕ
@@ -235,7 +251,7 @@ pub record HasTableFault (grants : Grants) (at line : ℕ) (text : List ℕ) : T
   pub follow : CantFollow grants fault line text start log
   pub other : HasOther start.start.schema at log
 
--- a journal is refused; where it is for one of its lines, no line of the log maps another table
+-- a journal is refused; if it is for one of its lines, no line of the log maps another table
 pub record HasJournalFault (grants : Grants) (fault : JournalFault) (line : ℕ) (text : List ℕ) : Type 0 where
   pub start : BundleValue
   pub log : List ℕ
@@ -285,7 +301,7 @@ pub data IsFull (grants : Grants) (fault : SetFault) (text : List ℕ) : Type 0 
   InNote : HasFullNote grants fault text → IsFull grants fault text
   InLack : IsTooLarge grants fault text → IsFull grants fault text
 
--- the fault names a line of the text's own; where memory was refused, nothing is claimed of it
+-- the fault names a line of the text's own; if out of memory, nothing is claimed of it
 abbrev pub IsNoOwn : Grants → JournalFault → List ℕ → Type 0
 IsNoOwn grants (faults.Set fault) text = IsMemoryOr (IsFull grants SourcesFull text) (IsFull grants PoolFull text) fault
 IsNoOwn grants (faults.Line n cause) text = IsNoHead grants (faults.Line n cause) text ⊎ (((m : ℕ) × IsNoNext grants (faults.Line m cause) n text) ⊎ ((cause ≡ causes.Body) × HasNoSet grants n text))

@@ -24,7 +24,7 @@ use txn_journal::{Bundle, BundleReader, JournalFault};
 pub struct ImportProgress {
     /// It has read the plain head, and the journals in the place of the logs.
     pub reader: BundleReader,
-    /// What the server of each channel had executed, where its line says so.
+    /// What the server of each channel had executed, if its line says so.
     pub executed: Vec<Option<GtidSet>>,
     pub notes: Vec<u8>,
 }

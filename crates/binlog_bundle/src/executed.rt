@@ -138,7 +138,7 @@ pub struct Lack {
     pub missing: GtidSet,
 }
 
-/// The name of the channel at a place where there is a journal.
+/// The name of the channel at the place of a journal.
 fn name_at(bundle: &Bundle, place: usize) -> Result<Name, SetFault>
     requires { IsSome (slice_get bundle.now.journals place) }
     ensures found { IfOk result (IsNameAt bundle.now place) }

@@ -10,7 +10,7 @@ use txn_journal::JournalFault;
 /// Why a bundle of logs is not read. Lines count from 1 over the whole text.
 #[derive(Drop)]
 pub enum BundleFault {
-    /// A line of the bundle's own is faulty, or the text ends before its last line; or memory was refused, or a set is full.
+    /// A line of the bundle's own is faulty, or the text ends before its last line; or out of memory, or a set is full.
     Own(JournalFault),
     /// The log after the line of a channel is not imported; its own lines count from the next one.
     Log { line: u64, fault: ImportFault },

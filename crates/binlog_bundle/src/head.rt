@@ -42,7 +42,7 @@ fn is_unsupported(line: &[u8]) -> bool
     line.starts_with(b"unsupported ")
 }
 
-/// The foreign key that is unsupported, where that is granted.
+/// The foreign key that is unsupported, if that is granted.
 fn granted_key(grants: Grants, what: &[u8]) -> Option<&[u8]>
     ensures { MatchOption result (NoGrantedKey grants what.now) (λ key. IsGrantedKey grants what.now key.now) }
 {

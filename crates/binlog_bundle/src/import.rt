@@ -25,7 +25,7 @@ pub struct ImportedBundle {
     pub notes: Vec<u8>,
 }
 
-/// The bundle, where no channel lacks anything of what its server had executed.
+/// The bundle, if no channel lacks anything that its server had executed.
 fn without_lack(
     alloc: Global,
     grants: Grants,
@@ -110,7 +110,7 @@ fn import_channels(
     }
 }
 
-/// What is read with a head: nothing where nothing comes after it, and else the end of a bundle.
+/// What is read with a head: nothing if nothing comes after it, and else the end of a bundle.
 fn end_for(rest: &[u8]) -> &'static [u8]
     ensures { result.now ≡ end_for rest.now }
 {

@@ -1,8 +1,7 @@
 //! Lines of a bundle among those of logs.
-ghost use Rattle.std.specs.Prelude.{◌≡◌, ◌≢◌, ◌++◌, ℕ, List, length, MatchOption, option_copied, slice_get};
+ghost use Rattle.std.specs.Prelude.{◌≡◌, ◌≢◌, ◌++◌, ℕ, List, MatchOption, option_copied, slice_get};
 ghost use Rattle.txn_journal.specs.Stream.{next_number};
-ghost use Rattle.txn_journal.specs.Words.{BeginsWithLine};
-ghost use Rattle.binlog_bundle.specs.Lines.{with_line_feed, is_channel, is_own, lines_in, IsCut};
+ghost use Rattle.binlog_bundle.specs.Lines.{is_channel, is_own, lines_in, IsCut, IsSplit, IsFirstLine};
 
 use binlog_entries::cut_line;
 
@@ -34,9 +33,9 @@ pub fn item_at<T>(list: &[T], place: usize) -> Option<&T>
     list.get(place)
 }
 
-/// A text before and after the place where so many bytes are left.
+/// A text before and after the place where `left` bytes are left.
 pub fn split_before(text: &[u8], left: usize) -> (&[u8], &[u8])
-    ensures { (front rest : List ℕ) → text.now ≡ front ++ rest → left ≡ length rest → (result.0.now ≡ front) × (result.1.now ≡ rest) }
+    ensures { IsSplit text.now left result.0.now result.1.now }
 {
     text.split_at(text.len().saturating_sub(left))
 }
@@ -55,10 +54,10 @@ pub fn cut_own(text: &[u8]) -> (&[u8], &[u8])
     split_before(text, 0)
 }
 
-/// The first line of a text, with its line feed where it has one, and what follows it.
+/// The first line of a text, with its line feed if it has one, and what follows it.
 pub fn split_line(text: &[u8]) -> (&[u8], &[u8])
     ensures parts { text.now ≡ result.0.now ++ result.1.now }
-    ensures first { (line after : List ℕ) → BeginsWithLine text.now line after → (result.0.now ≡ with_line_feed line) × (result.1.now ≡ after) }
+    ensures first { IsFirstLine text.now result.0.now result.1.now }
 {
     match cut_line(text) {
         Some((_, after)) => split_before(text, after.len()),

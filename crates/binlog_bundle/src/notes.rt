@@ -21,7 +21,7 @@ fn name_in(line: &[u8]) -> &[u8]
     }
 }
 
-/// Notes a foreign key that isn't looked at.
+/// Notes a foreign key that isn't checked.
 pub fn note_references(notes: &mut Vec<u8>, key: &[u8]) -> Result<(), AllocError>
     ensures { OnOk result (notes.new.items ≡ notes.old.items ++ references_note key.now) }
 {

@@ -5,7 +5,7 @@ ghost use Rattle.binlog_bundle.specs.Tables.{has_table, maps_other, HasOther, Ha
 
 use crate::lines::line_at;
 use binlog_entries::cut_line;
-use binlog_text::{Line, read_line};
+use binlog_text::{LogLine, read_line};
 use rows::Table;
 
 /// Whether one of the tables has this name.
@@ -22,7 +22,7 @@ fn maps_other(tables: &[Table], line: &[u8]) -> bool
     ensures { result ≡ maps_other tables.now (line_of line.now) }
 {
     match read_line(line) {
-        Some(Line::TableMap(_, table)) => !has_table(tables, table),
+        Some(LogLine::TableMap(_, table)) => !has_table(tables, table),
         _ => false,
     }
 }

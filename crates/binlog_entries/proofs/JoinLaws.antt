@@ -5,15 +5,16 @@ use Rattle.std.specs.FinSet as set
 use Rattle.gtid_text.specs.declared.Gtid.{Gtid}
 use Rattle.gtid_text.specs.declared.Span.{Span}
 use Rattle.gtid_text.specs.Gtids.{gtid_cmp}
-use Rattle.gtid_text.proofs.SameGtid.{gtid_total}
 use Rattle.gtid_set.specs.Laws.{HaveNumbers}
 use Rattle.gtid_set.specs.Sets.{Gtids, IsRunEnd, covers, gtid, interval}
 use Rattle.gtid_set.specs.Spans.{set_of}
 use Rattle.gtid_set.proofs.LawLemmas.{union_swap, union_group, union_itself, union_upper, union_least}
 use Rattle.gtid_set.proofs.SetLemmas.{union_empty, contains-interval}
-use Rattle.gtid_set.proofs.SetSources.{same_bool}
-use Rattle.std.proofs.lemmas.Bool.{and_parts, false_from_ne_true}
+use Rattle.std.proofs.lemmas.Bool.{and_parts, false_from_ne_true, and_from, and_right}
 use Rattle.std.proofs.lemmas.Bool.Decides.{nat_tests}
+use Rattle.lemmas.proofs.Tests.{same_bool}
+use Rattle.lemmas.proofs.SameGtid.{gtid_total}
+use Rattle.lemmas.proofs.Numbers.{le_of_test}
 use Rattle.journal.proofs.EntryLemmas.{union_numbers}
 
 -- ---- one interval after another
@@ -55,13 +56,10 @@ within_first a b c e = set.contains-is_subset gtid_total a c (λ q here. set.is_
 within_second : (a b c : Gtids) → set.is_subset (set.union a b) c ≡ true → set.is_subset b c ≡ true
 within_second a b c e = set.contains-is_subset gtid_total b c (λ q here. set.is_subset-contains gtid_total (set.union a b) c e q (set.is_subset-contains gtid_total b (set.union a b) (union_upper a b).1 q here))
 
-both_true : (a b : Bool) → a ≡ true → b ≡ true → (a && b) ≡ true
-both_true a b e f = cc
-
 within_union : (a b c : Gtids) → set.is_subset (set.union a b) c ≡ (set.is_subset a c && set.is_subset b c)
 within_union a b c =
     same_bool (set.is_subset (set.union a b) c) (set.is_subset a c && set.is_subset b c)
-    (λ e. both_true _ _ (within_first a b c e) (within_second a b c e))
+    (λ e. and_from _ _ (within_first a b c e) (within_second a b c e))
     (λ e. let parts = and_parts (set.is_subset a c) (set.is_subset b c) e in union_least a b c parts.0 parts.1)
 
 pub none_left : (whole : Gtids) → set.is_subset set.empty whole ≡ true
@@ -71,20 +69,13 @@ first_and : (a b : Bool) → b ≡ true → (a && b) ≡ a
 first_and true b e = e
 first_and false b e = refl
 
-none_and : (a b : Bool) → b ≡ false → (a && b) ≡ false
-none_and true b e = e
-none_and false b e = refl
-
 -- the first of these intervals is there
 pub next_within : (s : Span) (ss : List Span) (whole : Gtids) (all : Bool) → true ≡ set.is_subset (interval s.source s.lo s.hi) whole → set.is_subset (set_of (s ∷ ss)) whole ≡ all → set.is_subset (set_of ss) whole ≡ all
 next_within s ss whole all here e = sym (first_and (set.is_subset (set_of ss) whole) _ (sym here)) ∙ sym (within_union (set_of ss) (interval s.source s.lo s.hi) whole) ∙ e
 
 -- it is not
 pub not_within : (s : Span) (ss : List Span) (whole : Gtids) (all : Bool) → false ≡ set.is_subset (interval s.source s.lo s.hi) whole → set.is_subset (set_of (s ∷ ss)) whole ≡ all → false ≡ all
-not_within s ss whole all here e = sym (none_and (set.is_subset (set_of ss) whole) _ (sym here)) ∙ sym (within_union (set_of ss) (interval s.source s.lo s.hi) whole) ∙ e
-
-at_most : (a b : ℕ) → nat_le a b ≡ true → a ≤ b
-at_most a b e = grind (arith, nat_tests)
+not_within s ss whole all here e = sym (and_right (set.is_subset (set_of ss) whole) _ (sym here)) ∙ sym (within_union (set_of ss) (interval s.source s.lo s.hi) whole) ∙ e
 
 above : (a b : ℕ) → nat_le a b ≡ false → b + 1 ≤ a
 above a b e = grind (arith, nat_tests)
@@ -100,8 +91,8 @@ in_run whole source lo hi last run reach = set.contains-is_subset gtid_total (in
     by q e =
         let parts = and_parts (q.source == source) (nat_le lo q.number && nat_le q.number hi) e in
         let bounds = and_parts (nat_le lo q.number) (nat_le q.number hi) parts.1 in
-        let from : lo ≤ q.number = at_most lo q.number bounds.0 in
-        let near : q.number ≤ hi = at_most q.number hi bounds.1 in
+        let from : lo ≤ q.number = le_of_test lo q.number bounds.0 in
+        let near : q.number ≤ hi = le_of_test q.number hi bounds.1 in
         let below : q.number ≤ last = omega (arith, near, reach) in
         subst (λ (n : ℕ). set.contains whole (gtid n q.number) ≡ true) (sym (eqb-true q.source source parts.0)) (run.all q.number from below)
 
@@ -113,7 +104,7 @@ missing whole source lo hi n a b none =
     cc)
 
 pub run_within : (whole : Gtids) (source lo hi last : ℕ) (b : Bool) → IsRunEnd whole source lo last → b ≡ nat_le hi last → lo ≤ hi → b ≡ set.is_subset (interval source lo hi) whole
-run_within whole source lo hi last true run e filled = sym (in_run whole source lo hi last run (at_most hi last (sym e)))
+run_within whole source lo hi last true run e filled = sym (in_run whole source lo hi last run (le_of_test hi last (sym e)))
 run_within whole source lo hi last false run e filled =
     let reaches = run.reaches in
     let past : last + 1 ≤ hi = above hi last (sym e) in

@@ -4,11 +4,11 @@ use Rattle.std.specs.FinSet as set
 use Rattle.journal_words.specs.Gtids.{set_of_word, gtid_of_word}
 use Rattle.txn_journal.specs.Words.{name_of}
 use Rattle.binlog_text.specs.Types.{parse_type}
-use Rattle.binlog_text.specs.declared.lines.Event.{Event}
-use Rattle.binlog_text.specs.declared.lines.Event.TheVariants as events
+use Rattle.binlog_text.specs.declared.lines.LogEvent.{LogEvent}
+use Rattle.binlog_text.specs.declared.lines.LogEvent.TheVariants as events
 use Rattle.binlog_text.specs.declared.lines.Mark.{Mark}
 use Rattle.binlog_text.specs.declared.lines.Mark.TheVariants as marks
-use Rattle.binlog_text.specs.declared.lines.Operation.{Operation}
+use Rattle.binlog_text.specs.declared.lines.RowOperation.{RowOperation}
 use Rattle.binlog_text.specs.Lines.{Column, Content, OfMark, OfHead, OfTable, OfColumn, OfGtid, OfSources, OfRow, OfValue}
 use Rattle.binlog_entries.specs.Tables.{Table, find_table}
 use Rattle.binlog_entries.specs.Bodies.{kind_of, takes}
@@ -18,7 +18,7 @@ use Rattle.binlog_entries.specs.Meaning.{nowhere, with_sources, executed_before,
 use Rattle.binlog_entries.specs.declared.draft.File.{File}
 use Rattle.binlog_entries.specs.declared.draft.File.TheVariants as files
 use Rattle.gtid_text.specs.declared.Gtid.{Gtid}
-use Rattle.binlog_entries.specs.declared.draft.Stage.TheVariants as stages
+use Rattle.binlog_entries.specs.declared.draft.LogStage.TheVariants as stages
 use Rattle.binlog_entries.specs.declared.fault.EntryRefusal.{EntryRefusal}
 use Rattle.binlog_entries.specs.declared.fault.EntryRefusal.TheVariants as refusals
 use Rattle.std.specs.Prelude.{is_some, not, ◌&&◌}
@@ -26,8 +26,8 @@ use Rattle.gtid_set.specs.Sets.{Gtids}
 use Rattle.binlog_entries.specs.declared.varied.Varied.{Varied}
 use Rattle.binlog_entries.specs.Varied.{varied_behind}
 use Rattle.binlog_entries.specs.Machine.{Standing, or_refused, is_idle, is_named, is_begun, same_stage, is_whole, with_change, finish_in, finish_by, finish_row, is_database, may_be_database, known_name, row_line, before_due, after_due, where_line, set_line, next_value, value_in, value_line, place_line, table_line, note_varied, column_line, commit_line, flush_line, begin_line, gtid_line, previous_behind, join_sources, sources_line, head_line, mark_line, take_content, step, runs, start}
-use Rattle.binlog_entries.specs.declared.draft.Part.{Part}
-use Rattle.binlog_entries.specs.declared.draft.Part.TheVariants as parts
+use Rattle.binlog_entries.specs.declared.draft.RowPart.{RowPart}
+use Rattle.binlog_entries.specs.declared.draft.RowPart.TheVariants as parts
 use Rattle.binlog_entries.proofs.TransactionLaws.{bind_ok, same_ok, if_ok, done, context_of, Sound}
 use Rattle.binlog_entries.proofs.RowLaws.{opened_is, unless_not}
 use Rattle.binlog_entries.proofs.Meanings.{mapped_is, added_is, refused_is, test_ok, step_law, sound_start}
@@ -64,7 +64,7 @@ place_stays : (s t : Standing) → place_line s ≡ Ok t → Stay s t
 unfolding place_line
 place_stays s t h = let a = bind_ok (finish_row s) _ t h in by_ok s _ t (finished_stays s a.0 a.1) a.2
 
-row_stays : (s t : Standing) (operation : Operation) (database table : List ℕ) → row_line s operation database table ≡ Ok t → Stay s t
+row_stays : (s t : Standing) (operation : RowOperation) (database table : List ℕ) → row_line s operation database table ≡ Ok t → Stay s t
 unfolding row_line
 row_stays s t operation database table h =
     let a = bind_ok (finish_row s) _ t h in
@@ -72,7 +72,7 @@ row_stays s t operation database table h =
     let o = opened_is a.0 t operation (known_name table a.0.tables) c.1 in
     subst (Stay s) o.2 (finished_stays s a.0 a.1)
 
-value_stays : (s t : Standing) (part : Part) (n : ℕ) (text : List ℕ) → value_in s part n text ≡ Ok t → Stay s t
+value_stays : (s t : Standing) (part : RowPart) (n : ℕ) (text : List ℕ) → value_in s part n text ≡ Ok t → Stay s t
 value_stays s t parts.Head n text h = absurd cc
 value_stays s t parts.Before n text h = let a = bind_ok (next_value s (length s.before) n text) _ t h in by_ok s _ t refl a.2
 value_stays s t parts.After n text h = let a = bind_ok (next_value s (length s.after) n text) _ t h in by_ok s _ t refl a.2
@@ -136,7 +136,7 @@ sources_join s t word h =
     let a = bind_ok (or_refused refusals.Gtid (set_of_word word)) _ t h in
     joins_of s t word a.0 (refused_is refusals.Gtid (set_of_word word) a.0 a.1) a.2
 
-head_stays : (s t : Standing) (event : Event) → head_line s event ≡ Ok t → kept t ≡ kept_by s (OfHead event)
+head_stays : (s t : Standing) (event : LogEvent) → head_line s event ≡ Ok t → kept t ≡ kept_by s (OfHead event)
 unfolding head_line
 head_stays s t (events.Rows operation ends) h = ap kept (sym (if_ok (is_begun s.stage) _ refusals.Transaction t h).1)
 head_stays s t events.Start h = by_ok s s t refl h

@@ -10,6 +10,7 @@ use Rattle.std.specs.declared.cmp.Ordering.TheVariants.{Less, Equal, Greater}
 use Rattle.std.specs.Str.{bytes_eq}
 use Rattle.std.proofs.lemmas.Map.Text.{is_eq-slice_cmp}
 use Rattle.std.proofs.lemmas.Bool.Decides.{nat_tests}
+use Rattle.lemmas.proofs.Tests.{cond_or}
 use Rattle.binlog_entries.specs.Varied.{has_varied, with_varied}
 use Rattle.binlog_entries.specs.Known.{Place, place_cmp, AreKnown}
 use Rattle.binlog_entries.specs.declared.varied.Varied.{Varied}
@@ -36,10 +37,6 @@ or_last false b c d e = e
 varied_push : (table : List ℕ) (column : ℕ) (vs : List Varied) (v : Varied) → has_varied table column (vs ++ v ∷ []) ≡ ((bytes_eq v.table table && (v.column == column)) || has_varied table column vs)
 varied_push table column [] v = refl
 varied_push table column (w ∷ vs) v = or_last (bytes_eq w.table table && (w.column == column)) _ (has_varied table column vs) _ (varied_push table column vs v)
-
-cond_or : (b c : Bool) → cond b true c ≡ (b || c)
-cond_or true c = refl
-cond_or false c = refl
 
 if_not : {X : Type 0} (b : Bool) (x y : X) → b ≡ false → cond b x y ≡ y
 if_not true x y e = absurd cc

@@ -2,7 +2,7 @@
 use Rattle.std.proofs.Common.{◌≡◌, ℕ, ◌+◌, ◌<◌, ◌≤◌, zero, suc, Bool, true, false, cond, not, ◌&&◌, nat_le, List, [], ◌∷◌, length, get_or, Option, Some, None, refl, sym, ap, ◌∙◌, arith}
 use Rattle.std.specs.Prelude.{option_map}
 use Rattle.std.specs.List.{list_all, list_any}
-use Rattle.std.proofs.lemmas.Bool.{and_parts, le-leb}
+use Rattle.std.proofs.lemmas.Bool.{and_parts, le-leb, and_from}
 use Rattle.gtid_text.specs.Written.{IsNumbered}
 use Rattle.gtid_set.specs.Sets.{greatest}
 use Rattle.row_images.specs.declared.value.Value.{Value}
@@ -34,15 +34,11 @@ first_kept : (b : Bool) (column : ℕ) (rest : Option ℕ) → cond b rest (Some
 first_kept true column rest e = (refl, e)
 first_kept false column rest e = absurd cc
 
-and_true : (a b : Bool) → a ≡ true → b ≡ true → (a && b) ≡ true
-and_true true b e f = f
-and_true false b e f = absurd cc
-
 long_none : (column : ℕ) (vs : List Value) → first_long column vs ≡ None → list_all is_value_writable vs ≡ true
 long_none column [] e = refl
 long_none column (v ∷ vs) e =
     let p = first_kept (is_value_writable v) column (first_long (column + 1) vs) e in
-    and_true (is_value_writable v) (list_all is_value_writable vs) p.0 (long_none (column + 1) vs p.1)
+    and_from (is_value_writable v) (list_all is_value_writable vs) p.0 (long_none (column + 1) vs p.1)
 
 short_none : (column : ℕ) (vs : List Value) → list_all is_value_writable vs ≡ true → first_long column vs ≡ None
 short_none column [] e = refl
@@ -78,13 +74,13 @@ change_none (changes.Insert table after) e = image_none table after e
 change_none (changes.Delete table before) e = image_none table before e
 change_none (changes.Update table before after) e =
     let p = or_none (image_limit table before) (image_limit table after) e in
-    and_true (is_image_writable before) (is_image_writable after) (image_none table before p.0) (image_none table after p.1)
+    and_from (is_image_writable before) (is_image_writable after) (image_none table before p.0) (image_none table after p.1)
 
 changes_none : (cs : List Change) → changes_limit cs ≡ None → list_all is_change_writable cs ≡ true
 changes_none [] e = refl
 changes_none (c ∷ cs) e =
     let p = or_none (change_limit c) (changes_limit cs) e in
-    and_true (is_change_writable c) (list_all is_change_writable cs) (change_none c p.0) (changes_none cs p.1)
+    and_from (is_change_writable c) (list_all is_change_writable cs) (change_none c p.0) (changes_none cs p.1)
 
 few_none : (b : Bool) (o : Option Limit) → cond b o (Some limits.Changes) ≡ None → (b ≡ true) × (o ≡ None)
 few_none true o e = (refl, e)
@@ -94,5 +90,5 @@ few_none false o e = absurd cc
 pub within_limits : (e : Entry) → is_number e.gtid.number ≡ true → limit_of e ≡ None → is_writable e ≡ true
 within_limits e number none =
     let p = few_none (nat_le (length e.txn.changes) 65536) (changes_limit e.txn.changes) none in
-    and_true (is_number e.gtid.number) (is_txn_writable e.txn) number
-    (and_true (nat_le (length e.txn.changes) 65536) (list_all is_change_writable e.txn.changes) p.0 (changes_none e.txn.changes p.1))
+    and_from (is_number e.gtid.number) (is_txn_writable e.txn) number
+    (and_from (nat_le (length e.txn.changes) 65536) (list_all is_change_writable e.txn.changes) p.0 (changes_none e.txn.changes p.1))

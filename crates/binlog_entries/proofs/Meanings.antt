@@ -1,17 +1,17 @@
 -- Each line adds what it means to what the entries and what is open denote.
-use Rattle.std.specs.Prelude.{◌&&◌}
 use Rattle.std.proofs.Common.{◌≡◌, ℕ, Bool, true, false, cond, not, List, [], ◌∷◌, ◌++◌, Option, Some, None, Result, Ok, Err, refl, sym, ap, ◌∙◌, subst, append_assoc, append-nil}
+use Rattle.lemmas.proofs.Tests.{never}
 use Rattle.gtid_set.specs.Sets.{Gtids}
 use Rattle.journal_words.specs.Gtids.{set_of_word}
 use Rattle.rows.specs.Names.{is_name}
 use Rattle.txn_journal.specs.Words.{name_of}
 use Rattle.binlog_text.specs.declared.types.ColumnType.{ColumnType}
 use Rattle.binlog_text.specs.Types.{parse_type}
-use Rattle.binlog_text.specs.declared.lines.Event.{Event}
-use Rattle.binlog_text.specs.declared.lines.Event.TheVariants as events
+use Rattle.binlog_text.specs.declared.lines.LogEvent.{LogEvent}
+use Rattle.binlog_text.specs.declared.lines.LogEvent.TheVariants as events
 use Rattle.binlog_text.specs.declared.lines.Mark.{Mark}
 use Rattle.binlog_text.specs.declared.lines.Mark.TheVariants as marks
-use Rattle.binlog_text.specs.declared.lines.Operation.{Operation}
+use Rattle.binlog_text.specs.declared.lines.RowOperation.{RowOperation}
 use Rattle.binlog_text.specs.Lines.{Column, Content, OfMark, OfHead, OfTable, OfColumn, OfGtid, OfSources, OfRow, OfValue}
 use Rattle.binlog_entries.specs.Tables.{Table}
 use Rattle.binlog_entries.specs.Files.{next_file, has_come, come_behind}
@@ -19,21 +19,20 @@ use Rattle.binlog_entries.specs.Unread.{refusal_at}
 use Rattle.binlog_entries.specs.Bodies.{kind_of, takes, rows_body, body_of, behind, next_body}
 use Rattle.binlog_entries.specs.Machine.{Standing, or_refused, is_idle, is_begun, same_stage, may_be_database, map_table, table_line, add_column, note_varied, column_line, previous_behind, sources_line, head_line, mark_line, take_content, step, runs, start, is_closed}
 use Rattle.binlog_entries.specs.Meaning.{Meaning, Context, nowhere, means, with_column, context_behind, meaning, meaning_of_entries}
-use Rattle.binlog_entries.specs.declared.bodies.Body.{Body}
 use Rattle.binlog_entries.specs.declared.bodies.Body.TheVariants as bodies
-use Rattle.binlog_entries.specs.declared.bodies.Kind.{Kind}
-use Rattle.binlog_entries.specs.declared.bodies.Kind.TheVariants as kinds
-use Rattle.binlog_entries.specs.declared.draft.Stage.{Stage}
-use Rattle.binlog_entries.specs.declared.draft.Stage.TheVariants as stages
+use Rattle.binlog_entries.specs.declared.bodies.BodyKind.{BodyKind}
+use Rattle.binlog_entries.specs.declared.bodies.BodyKind.TheVariants as kinds
+use Rattle.binlog_entries.specs.declared.draft.LogStage.{LogStage}
+use Rattle.binlog_entries.specs.declared.draft.LogStage.TheVariants as stages
 use Rattle.binlog_entries.specs.declared.fault.EntryRefusal.{EntryRefusal}
 use Rattle.binlog_entries.specs.declared.fault.EntryRefusal.TheVariants as refusals
-use Rattle.binlog_entries.proofs.TransactionLaws.{bind_ok, same_ok, done, if_ok, spelled_open, row_of, spelled_state, context_of, is_rows, Sound, Tells, place_law, automatic_law, still, IsQuiet, closed_not, comment_quiet, setting_quiet, frame_quiet, sources_quiet, ended_quiet, statement_quiet, committed_quiet, column_quiet, tablemap_quiet, between_only, rows_only, neutral, closed_law, begin_law, flush_law, commit_law, gtid_law}
+use Rattle.binlog_entries.proofs.TransactionLaws.{bind_ok, same_ok, done, if_ok, spelled_open, row_of, spelled_state, context_of, is_rows, Sound, Tells, place_law, automatic_law, still, IsQuiet, comment_quiet, setting_quiet, frame_quiet, sources_quiet, ended_quiet, statement_quiet, committed_quiet, column_quiet, tablemap_quiet, between_only, rows_only, neutral, closed_law, begin_law, flush_law, commit_law, gtid_law}
 use Rattle.binlog_entries.proofs.RowLaws.{sound_rows, where_law, set_law, value_law, named_is, unless_not, row_law}
 
 -- ---- heads of events, tables and columns
 
 -- that of a rows event which ends its statement
-ending_head : (s : Standing) (operation : Operation) → Sound s → s.row ≡ None → is_begun s.stage ≡ true → Tells s (OfHead (events.Rows operation true)) (record s { is_over = true; is_open = false; body = bodies.RowsDue })
+ending_head : (s : Standing) (operation : RowOperation) → Sound s → s.row ≡ None → is_begun s.stage ≡ true → Tells s (OfHead (events.Rows operation true)) (record s { is_over = true; is_open = false; body = bodies.RowsDue })
 ending_head s operation sound none begun = record {
   spells = sym (append-nil (spelled_state s));
   context = refl;
@@ -41,25 +40,25 @@ ending_head s operation sound none begun = record {
 }
 
 -- that of one before it
-earlier_head : (s : Standing) (operation : Operation) → Sound s → s.row ≡ None → Tells s (OfHead (events.Rows operation false)) (record s { is_over = true; is_open = true; body = bodies.Done })
+earlier_head : (s : Standing) (operation : RowOperation) → Sound s → s.row ≡ None → Tells s (OfHead (events.Rows operation false)) (record s { is_over = true; is_open = true; body = bodies.Done })
 earlier_head s operation sound none = record {
   spells = sym (append-nil (spelled_state s));
   context = refl;
   sound = record {
     quiet = sound.quiet;
     inside = λ b. none;
-    begun = λ b. closed_not b;
-    closed = λ c. closed_not c;
-    due = λ d. closed_not d;
+    begun = λ b. never b;
+    closed = λ c. never c;
+    due = λ d. never d;
     fits = sound.fits;
   };
 }
 
-either_head : (s : Standing) (operation : Operation) (ends : Bool) → Sound s → s.row ≡ None → is_begun s.stage ≡ true → Tells s (OfHead (events.Rows operation ends)) (record s { is_over = true; is_open = not ends; body = rows_body ends })
+either_head : (s : Standing) (operation : RowOperation) (ends : Bool) → Sound s → s.row ≡ None → is_begun s.stage ≡ true → Tells s (OfHead (events.Rows operation ends)) (record s { is_over = true; is_open = not ends; body = rows_body ends })
 either_head s operation true sound none begun = ending_head s operation sound none begun
 either_head s operation false sound none begun = earlier_head s operation sound none
 
-rows_head_law : (s t : Standing) (operation : Operation) (ends : Bool) → Sound s → takes s.body kinds.Head ≡ true → head_line s (events.Rows operation ends) ≡ Ok t → Tells s (OfHead (events.Rows operation ends)) (record t { body = rows_body ends })
+rows_head_law : (s t : Standing) (operation : RowOperation) (ends : Bool) → Sound s → takes s.body kinds.Head ≡ true → head_line s (events.Rows operation ends) ≡ Ok t → Tells s (OfHead (events.Rows operation ends)) (record t { body = rows_body ends })
 unfolding head_line
 rows_head_law s t operation ends sound at h =
     let none = sound.inside (ap is_rows (between_only s.body kinds.Head at)) in
@@ -70,7 +69,7 @@ rows_head_law s t operation ends sound at h =
 previous_head_law : (s t : Standing) → Sound s → takes s.body kinds.Head ≡ true → done (record s { file = next_file s.file }) ≡ Ok t → Tells s (OfHead events.PreviousGtids) (record t { body = bodies.PreviousGtids })
 previous_head_law s t sound at h =
     let between : is_rows s.body ≡ false = ap is_rows (between_only s.body kinds.Head at) in
-    let as_it_was = still s (OfHead events.PreviousGtids) bodies.PreviousGtids sound between refl (λ c. closed_not c) refl refl in
+    let as_it_was = still s (OfHead events.PreviousGtids) bodies.PreviousGtids sound between refl (λ c. never c) refl refl in
     subst (λ (u : Standing). Tells s (OfHead events.PreviousGtids) (record u { body = bodies.PreviousGtids })) (same_ok _ t h) (record {
       spells = as_it_was.spells;
       context = as_it_was.context;
@@ -85,13 +84,13 @@ previous_head_law s t sound at h =
     })
 
 -- any other head
-plain_head : (s t : Standing) (event : Event) → Sound s → takes s.body kinds.Head ≡ true → done s ≡ Ok t → is_rows (body_of event) ≡ false → is_closed (body_of event) ≡ false → context_behind (context_of s) (OfHead event) ≡ context_of s → Tells s (OfHead event) (record t { body = body_of event })
+plain_head : (s t : Standing) (event : LogEvent) → Sound s → takes s.body kinds.Head ≡ true → done s ≡ Ok t → is_rows (body_of event) ≡ false → is_closed (body_of event) ≡ false → context_behind (context_of s) (OfHead event) ≡ context_of s → Tells s (OfHead event) (record t { body = body_of event })
 plain_head s t event sound at h rows closed same =
     let between : is_rows s.body ≡ false = ap is_rows (between_only s.body kinds.Head at) in
     subst (λ (u : Standing). Tells s (OfHead event) (record u { body = body_of event })) (same_ok s t h)
     (still s (OfHead event) (body_of event) sound between rows (λ c. absurd (let bad : true ≡ false = sym c ∙ closed in cc)) refl same)
 
-head_law : (s t : Standing) (event : Event) → Sound s → takes s.body kinds.Head ≡ true → head_line s event ≡ Ok t → Tells s (OfHead event) (record t { body = body_of event })
+head_law : (s t : Standing) (event : LogEvent) → Sound s → takes s.body kinds.Head ≡ true → head_line s event ≡ Ok t → Tells s (OfHead event) (record t { body = body_of event })
 unfolding head_line
 head_law s t (events.Rows operation ends) sound at h = rows_head_law s t operation ends sound at h
 head_law s t events.Start sound at h = plain_head s t events.Start sound at h refl refl refl
@@ -107,9 +106,9 @@ sound_tables : (s : Standing) (over : Bool) (database : Option (List ℕ)) (mapp
 sound_tables s over database mapping tables sound outside = record {
   quiet = sound.quiet;
   inside = λ b. sound.inside outside;
-  begun = λ b. closed_not b;
-  closed = λ c. closed_not c;
-  due = λ d. closed_not d;
+  begun = λ b. never b;
+  closed = λ c. never c;
+  due = λ d. never d;
   fits = sound.fits;
 }
 
@@ -162,14 +161,14 @@ column_law s t c sound at h =
 -- ---- each line
 
 -- a line that changes nothing
-unchanged : (s t : Standing) (l : Content) (kind : Kind) → Sound s → IsQuiet s.body (behind s.body kind) → means (context_of s) l ≡ [] → context_behind (context_of s) l ≡ context_of s → done s ≡ Ok t → Tells s l (record t { body = behind t.body kind })
+unchanged : (s t : Standing) (l : Content) (kind : BodyKind) → Sound s → IsQuiet s.body (behind s.body kind) → means (context_of s) l ≡ [] → context_behind (context_of s) l ≡ context_of s → done s ≡ Ok t → Tells s l (record t { body = behind t.body kind })
 unchanged s t l kind sound q nothing same h = subst (λ (u : Standing). Tells s l (record u { body = behind u.body kind })) (same_ok s t h) (neutral s l kind sound q nothing same)
 
 savepoint_law : (s t : Standing) → Sound s → takes s.body kinds.Statement ≡ true → cond (same_stage s.stage stages.Begun) (Ok s) (Err refusals.Transaction) ≡ Ok t → Tells s (OfMark marks.Savepoint) (record t { body = bodies.Statement })
 savepoint_law s t sound at h = let p = if_ok (same_stage s.stage stages.Begun) s refusals.Transaction t h in
     subst (λ (u : Standing). Tells s (OfMark marks.Savepoint) (record u { body = bodies.Statement })) p.1 (neutral s (OfMark marks.Savepoint) kinds.Statement sound (statement_quiet s.body at) refl refl)
 
-idle_same : (stage : Stage) → same_stage stage stages.Idle ≡ true → is_idle stage ≡ true
+idle_same : (stage : LogStage) → same_stage stage stages.Idle ≡ true → is_idle stage ≡ true
 idle_same stages.Idle e = refl
 idle_same stages.Named e = absurd cc
 idle_same stages.Begun e = absurd cc
@@ -260,8 +259,8 @@ pub sound_start : (opening : Gtids) → Sound (start opening)
 sound_start opening = record {
   quiet = λ b. (refl, refl);
   inside = λ b. refl;
-  begun = λ b. closed_not b;
-  closed = λ c. closed_not c;
+  begun = λ b. never b;
+  closed = λ c. never c;
   due = λ d. refl;
   fits = (refl, refl);
 }
@@ -272,7 +271,7 @@ entries_told opening ls s h closed =
     let all = runs_law (start opening) ls s (sound_start opening) h in
     sym all.spells ∙ idle_spelled s.stage (all.sound.closed closed)
   where
-    idle_spelled : (stage : Stage) → is_idle stage ≡ true → meaning_of_entries s.entries ++ spelled_open stage s.gtid s.changes (row_of s) ≡ meaning_of_entries s.entries
+    idle_spelled : (stage : LogStage) → is_idle stage ≡ true → meaning_of_entries s.entries ++ spelled_open stage s.gtid s.changes (row_of s) ≡ meaning_of_entries s.entries
     idle_spelled stages.Idle e = append-nil (meaning_of_entries s.entries)
     idle_spelled stages.Named e = absurd cc
     idle_spelled stages.Begun e = absurd cc

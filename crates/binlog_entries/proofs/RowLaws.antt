@@ -14,8 +14,8 @@ use Rattle.txn_journal.specs.Words.{name_of}
 use Rattle.binlog_text.specs.declared.types.ColumnType.{ColumnType}
 use Rattle.binlog_text.specs.Values.{value_at}
 use Rattle.binlog_text.specs.declared.lines.Mark.TheVariants as marks
-use Rattle.binlog_text.specs.declared.lines.Operation.{Operation}
-use Rattle.binlog_text.specs.declared.lines.Operation.TheVariants as operations
+use Rattle.binlog_text.specs.declared.lines.RowOperation.{RowOperation}
+use Rattle.binlog_text.specs.declared.lines.RowOperation.TheVariants as operations
 use Rattle.binlog_text.specs.Lines.{OfMark, OfRow, OfValue}
 use Rattle.binlog_entries.specs.Tables.{Table, find_table, type_at}
 use Rattle.binlog_entries.specs.Bodies.{is_row_due, row_behind}
@@ -23,10 +23,10 @@ use Rattle.binlog_entries.specs.Machine.{Standing, or_refused, is_begun, finish_
 use Rattle.binlog_entries.specs.Meaning.{Meaning, Names, Row, Before, After, Holds, shown_in, meaning_of_values, meaning_of_change, meaning_of_entries}
 use Rattle.binlog_entries.specs.declared.bodies.Body.{Body}
 use Rattle.binlog_entries.specs.declared.bodies.Body.TheVariants as bodies
-use Rattle.binlog_entries.specs.declared.draft.Stage.{Stage}
-use Rattle.binlog_entries.specs.declared.draft.Stage.TheVariants as stages
-use Rattle.binlog_entries.specs.declared.draft.Part.{Part}
-use Rattle.binlog_entries.specs.declared.draft.Part.TheVariants as parts
+use Rattle.binlog_entries.specs.declared.draft.LogStage.{LogStage}
+use Rattle.binlog_entries.specs.declared.draft.LogStage.TheVariants as stages
+use Rattle.binlog_entries.specs.declared.draft.RowPart.{RowPart}
+use Rattle.binlog_entries.specs.declared.draft.RowPart.TheVariants as parts
 use Rattle.binlog_entries.specs.declared.fault.EntryRefusal.{EntryRefusal}
 use Rattle.binlog_entries.specs.declared.fault.EntryRefusal.TheVariants as refusals
 use Rattle.binlog_entries.proofs.TransactionLaws.{bind_ok, same_ok, if_ok, spelled_row, spelled_open, row_of, spelled_state, is_rows, RowFits, Sound, Tells, bare, finish_law}
@@ -34,7 +34,7 @@ use Rattle.binlog_entries.proofs.TransactionLaws.{bind_ok, same_ok, if_ok, spell
 -- ---- rows
 
 -- what a row of the transaction that has begun means more
-pub grown : (es : List Meaning) (stage : Stage) (gtid : Gtid) (cs : List Change) (old new m : List Meaning) → is_begun stage ≡ true → new ≡ old ++ m → es ++ spelled_open stage gtid cs new ≡ (es ++ spelled_open stage gtid cs old) ++ m
+pub grown : (es : List Meaning) (stage : LogStage) (gtid : Gtid) (cs : List Change) (old new m : List Meaning) → is_begun stage ≡ true → new ≡ old ++ m → es ++ spelled_open stage gtid cs new ≡ (es ++ spelled_open stage gtid cs old) ++ m
 grown es stages.Idle gtid cs old new m b e = absurd cc
 grown es stages.Named gtid cs old new m b e = absurd cc
 grown es stages.Begun gtid cs old new m b e =
@@ -74,13 +74,13 @@ sound_row s rows begun fits = sound_rows (record s { body = row_behind s.body })
 abbrev pub row_taken : Standing → Standing
 row_taken t = record t { body = row_behind t.body }
 
-pub where_row : (r : Option (List ℕ)) (operation : Operation) (part : Part) (before after : List Value) → (is_some r && before_due operation part) ≡ true → RowFits r part before after → (spelled_row r operation parts.Before before after ≡ spelled_row r operation part before after ++ Before ∷ []) × RowFits r parts.Before before after
+pub where_row : (r : Option (List ℕ)) (operation : RowOperation) (part : RowPart) (before after : List Value) → (is_some r && before_due operation part) ≡ true → RowFits r part before after → (spelled_row r operation parts.Before before after ≡ spelled_row r operation part before after ++ Before ∷ []) × RowFits r parts.Before before after
 where_row None operation part before after e fits = absurd cc
 where_row (Some table) operations.Update parts.Head before after e fits = (ap (λ (vs : List Value). Row operations.Update table ∷ Before ∷ meaning_of_values 1 vs) fits.0, fits.1)
 where_row (Some table) operations.Delete parts.Head before after e fits = (ap (λ (vs : List Value). Row operations.Delete table ∷ Before ∷ meaning_of_values 1 vs) fits.0, fits.1)
 where_row (Some table) _ _ before after e fits = absurd cc
 
-pub set_row : (r : Option (List ℕ)) (operation : Operation) (part : Part) (before after : List Value) → (is_some r && after_due operation part) ≡ true → RowFits r part before after → (spelled_row r operation parts.After before after ≡ spelled_row r operation part before after ++ After ∷ []) × RowFits r parts.After before after
+pub set_row : (r : Option (List ℕ)) (operation : RowOperation) (part : RowPart) (before after : List Value) → (is_some r && after_due operation part) ≡ true → RowFits r part before after → (spelled_row r operation parts.After before after ≡ spelled_row r operation part before after ++ After ∷ []) × RowFits r parts.After before after
 set_row None operation part before after e fits = absurd cc
 set_row (Some table) operations.Insert parts.Head before after e fits = (ap (λ (vs : List Value). Row operations.Insert table ∷ After ∷ meaning_of_values 1 vs) fits.1, tt)
 set_row (Some table) operations.Update parts.Before before after e fits = (ap (λ (vs : List Value). Row operations.Update table ∷ Before ∷ (meaning_of_values 1 before ++ After ∷ meaning_of_values 1 vs)) fits, tt)
@@ -147,11 +147,11 @@ next_found s place n text v e =
     chosen_result true r e v h = (refl, h)
     chosen_result false r e v h = absurd cc
 
-pub before_more : (r : Option (List ℕ)) (table : List ℕ) (operation : Operation) (before after : List Value) (n : ℕ) (v : Value) → r ≡ Some table → n ≡ length before + 1 → spelled_row r operation parts.Before (before ++ v ∷ []) after ≡ spelled_row r operation parts.Before before after ++ Holds n (Some v) ∷ []
+pub before_more : (r : Option (List ℕ)) (table : List ℕ) (operation : RowOperation) (before after : List Value) (n : ℕ) (v : Value) → r ≡ Some table → n ≡ length before + 1 → spelled_row r operation parts.Before (before ++ v ∷ []) after ≡ spelled_row r operation parts.Before before after ++ Holds n (Some v) ∷ []
 before_more None table operation before after n v e m = absurd cc
 before_more (Some t) table operation before after n v e m = ap (λ (xs : List Meaning). Row operation t ∷ Before ∷ xs) (held_more 1 n before v (omega (arith, m)))
 
-pub after_more : (r : Option (List ℕ)) (table : List ℕ) (operation : Operation) (before after : List Value) (n : ℕ) (v : Value) → r ≡ Some table → n ≡ length after + 1 → spelled_row r operation parts.After before (after ++ v ∷ []) ≡ spelled_row r operation parts.After before after ++ Holds n (Some v) ∷ []
+pub after_more : (r : Option (List ℕ)) (table : List ℕ) (operation : RowOperation) (before after : List Value) (n : ℕ) (v : Value) → r ≡ Some table → n ≡ length after + 1 → spelled_row r operation parts.After before (after ++ v ∷ []) ≡ spelled_row r operation parts.After before after ++ Holds n (Some v) ∷ []
 after_more None table operation before after n v e m = absurd cc
 after_more (Some t) table operations.Insert before after n v e m = ap (λ (xs : List Meaning). Row operations.Insert t ∷ After ∷ xs) (held_more 1 n after v (omega (arith, m)))
 after_more (Some t) table operations.Update before after n v e m =
@@ -169,17 +169,17 @@ pub fits_after : (r : Option (List ℕ)) (table : List ℕ) (before after : List
 fits_after None table before after e = absurd cc
 fits_after (Some t) table before after e = tt
 
-pub value_by : (s t : Standing) (part : Part) (n : ℕ) (text : List ℕ) → Sound s → is_rows s.body ≡ true → s.part ≡ part → value_in s part n text ≡ Ok t → Tells s (OfValue n text) (row_taken t)
+pub value_by : (s t : Standing) (part : RowPart) (n : ℕ) (text : List ℕ) → Sound s → is_rows s.body ≡ true → s.part ≡ part → value_in s part n text ≡ Ok t → Tells s (OfValue n text) (row_taken t)
 value_by s t parts.Head n text sound rows is h = absurd cc
 value_by s t parts.Before n text sound rows is h =
     let a = bind_ok (next_value s (length s.before) n text) _ t h in
     let v = next_found s (length s.before) n text a.0 a.1 in
     let row : spelled_row s.row s.operation s.part (s.before ++ a.0 ∷ []) s.after ≡ row_of s ++ Holds n (Some a.0) ∷ [] =
-    subst (λ (p : Part). spelled_row s.row s.operation p (s.before ++ a.0 ∷ []) s.after ≡ spelled_row s.row s.operation p s.before s.after ++ Holds n (Some a.0) ∷ []) (sym is)
+    subst (λ (p : RowPart). spelled_row s.row s.operation p (s.before ++ a.0 ∷ []) s.after ≡ spelled_row s.row s.operation p s.before s.after ++ Holds n (Some a.0) ∷ []) (sym is)
     (before_more s.row v.row.0 s.operation s.before s.after n a.0 v.row.1 v.number) in
     let fits : RowFits s.row s.part (s.before ++ a.0 ∷ []) s.after =
-    subst (λ (p : Part). RowFits s.row p (s.before ++ a.0 ∷ []) s.after) (sym is)
-    (fits_before s.row v.row.0 s.before (s.before ++ a.0 ∷ []) s.after v.row.1 (subst (λ (p : Part). RowFits s.row p s.before s.after) is sound.fits)) in
+    subst (λ (p : RowPart). RowFits s.row p (s.before ++ a.0 ∷ []) s.after) (sym is)
+    (fits_before s.row v.row.0 s.before (s.before ++ a.0 ∷ []) s.after v.row.1 (subst (λ (p : RowPart). RowFits s.row p s.before s.after) is sound.fits)) in
     subst (λ (u : Standing). Tells s (OfValue n text) (row_taken u)) (same_ok _ t a.2) (record {
       spells = grown (meaning_of_entries s.entries) s.stage s.gtid s.changes (row_of s) _ (Holds n (Some a.0) ∷ []) (sound.begun rows) row
           ∙ ap (λ (o : Option Value). spelled_state s ++ Holds n o ∷ []) (sym v.shown);
@@ -190,10 +190,10 @@ value_by s t parts.After n text sound rows is h =
     let a = bind_ok (next_value s (length s.after) n text) _ t h in
     let v = next_found s (length s.after) n text a.0 a.1 in
     let row : spelled_row s.row s.operation s.part s.before (s.after ++ a.0 ∷ []) ≡ row_of s ++ Holds n (Some a.0) ∷ [] =
-    subst (λ (p : Part). spelled_row s.row s.operation p s.before (s.after ++ a.0 ∷ []) ≡ spelled_row s.row s.operation p s.before s.after ++ Holds n (Some a.0) ∷ []) (sym is)
+    subst (λ (p : RowPart). spelled_row s.row s.operation p s.before (s.after ++ a.0 ∷ []) ≡ spelled_row s.row s.operation p s.before s.after ++ Holds n (Some a.0) ∷ []) (sym is)
     (after_more s.row v.row.0 s.operation s.before s.after n a.0 v.row.1 v.number) in
     let fits : RowFits s.row s.part s.before (s.after ++ a.0 ∷ []) =
-    subst (λ (p : Part). RowFits s.row p s.before (s.after ++ a.0 ∷ [])) (sym is) (fits_after s.row v.row.0 s.before (s.after ++ a.0 ∷ []) v.row.1) in
+    subst (λ (p : RowPart). RowFits s.row p s.before (s.after ++ a.0 ∷ [])) (sym is) (fits_after s.row v.row.0 s.before (s.after ++ a.0 ∷ []) v.row.1) in
     subst (λ (u : Standing). Tells s (OfValue n text) (row_taken u)) (same_ok _ t a.2) (record {
       spells = grown (meaning_of_entries s.entries) s.stage s.gtid s.changes (row_of s) _ (Holds n (Some a.0) ∷ []) (sound.begun rows) row
           ∙ ap (λ (o : Option Value). spelled_state s ++ Holds n o ∷ []) (sym v.shown);
@@ -222,11 +222,11 @@ pub unless_not : {A : Type 0} (b : Bool) (e : EntryRefusal) (r : Result A EntryR
 unless_not true e r x h = (refl, h)
 unless_not false e r x h = absurd cc
 
-pub opened_is : (s t : Standing) (operation : Operation) (o : Option (List ℕ)) → open_row s operation o ≡ Ok t → (table : List ℕ) × (o ≡ Some table) × (record s { row = Some table; operation = operation; part = parts.Head } ≡ t)
+pub opened_is : (s t : Standing) (operation : RowOperation) (o : Option (List ℕ)) → open_row s operation o ≡ Ok t → (table : List ℕ) × (o ≡ Some table) × (record s { row = Some table; operation = operation; part = parts.Head } ≡ t)
 opened_is s t operation None e = absurd cc
 opened_is s t operation (Some table) e = (table, refl, same_ok _ t e)
 
-pub row_law : (s t : Standing) (operation : Operation) (database table : List ℕ) → Sound s → is_rows s.body ≡ true → row_line s operation database table ≡ Ok t → Tells s (OfRow operation database table) (row_taken t)
+pub row_law : (s t : Standing) (operation : RowOperation) (database table : List ℕ) → Sound s → is_rows s.body ≡ true → row_line s operation database table ≡ Ok t → Tells s (OfRow operation database table) (row_taken t)
 unfolding row_line
 row_law s t operation database table sound rows h =
     let a = bind_ok (finish_row s) _ t h in

@@ -3,6 +3,7 @@ use Rattle.std.proofs.lemmas.Bool.{and_parts}
 use Rattle.std.proofs.Common.{◌≡◌, ℕ, Bool, true, false, cond, not, ◌&&◌, List, [], ◌∷◌, ◌++◌, length, Option, Some, None, Result, Ok, Err, refl, sym, ap, ◌∙◌, subst, append_assoc, append-nil}
 use Rattle.std.specs.List.{flat_map}
 use Rattle.std.specs.FinSet as set
+use Rattle.lemmas.proofs.Tests.{never}
 use Rattle.gtid_text.specs.Canonical.{gtid_text}
 use Rattle.gtid_text.specs.declared.Gtid.{Gtid}
 use Rattle.journal_words.specs.Gtids.{gtid_of_word}
@@ -11,8 +12,8 @@ use Rattle.rows.specs.declared.change.Change.{Change}
 use Rattle.txn_journal.proofs.GtidLaws.{gtid_found}
 use Rattle.binlog_text.specs.declared.lines.Mark.{Mark}
 use Rattle.binlog_text.specs.declared.lines.Mark.TheVariants as marks
-use Rattle.binlog_text.specs.declared.lines.Operation.{Operation}
-use Rattle.binlog_text.specs.declared.lines.Operation.TheVariants as operations
+use Rattle.binlog_text.specs.declared.lines.RowOperation.{RowOperation}
+use Rattle.binlog_text.specs.declared.lines.RowOperation.TheVariants as operations
 use Rattle.binlog_text.specs.Lines.{Content, OfMark, OfGtid}
 use Rattle.binlog_entries.specs.Tables.{Table, find_table, with_mapping}
 use Rattle.binlog_entries.specs.Bodies.{is_row_due, takes, behind}
@@ -20,13 +21,13 @@ use Rattle.binlog_entries.specs.Machine.{Standing, ◌>>=◌, or_refused, is_idl
 use Rattle.binlog_entries.specs.Meaning.{Meaning, Names, Row, Before, After, Commits, Context, means, behind_place, context_behind, meaning_of_values, meaning_of_change, meaning_of_entry, meaning_of_entries}
 use Rattle.binlog_entries.specs.declared.bodies.Body.{Body}
 use Rattle.binlog_entries.specs.declared.bodies.Body.TheVariants as bodies
-use Rattle.binlog_entries.specs.declared.bodies.Kind.{Kind}
-use Rattle.binlog_entries.specs.declared.bodies.Kind.TheVariants as kinds
-use Rattle.binlog_entries.specs.declared.draft.Stage.{Stage}
-use Rattle.binlog_entries.specs.declared.draft.Stage.TheVariants as stages
+use Rattle.binlog_entries.specs.declared.bodies.BodyKind.{BodyKind}
+use Rattle.binlog_entries.specs.declared.bodies.BodyKind.TheVariants as kinds
+use Rattle.binlog_entries.specs.declared.draft.LogStage.{LogStage}
+use Rattle.binlog_entries.specs.declared.draft.LogStage.TheVariants as stages
 use Rattle.binlog_entries.specs.declared.draft.File.TheVariants as files
-use Rattle.binlog_entries.specs.declared.draft.Part.{Part}
-use Rattle.binlog_entries.specs.declared.draft.Part.TheVariants as parts
+use Rattle.binlog_entries.specs.declared.draft.RowPart.{RowPart}
+use Rattle.binlog_entries.specs.declared.draft.RowPart.TheVariants as parts
 use Rattle.binlog_entries.specs.declared.fault.EntryRefusal.{EntryRefusal}
 use Rattle.binlog_entries.specs.declared.fault.EntryRefusal.TheVariants as refusals
 
@@ -49,18 +50,18 @@ if_ok false x e y h = absurd cc
 
 -- ---- what a state denotes
 
-abbrev pub spelled_parts : Operation → Part → List Value → List Value → List Meaning
+abbrev pub spelled_parts : RowOperation → RowPart → List Value → List Value → List Meaning
 spelled_parts operation parts.Head before after = []
 spelled_parts operation parts.Before before after = Before ∷ meaning_of_values 1 before
 spelled_parts operations.Insert parts.After before after = After ∷ meaning_of_values 1 after
 spelled_parts operations.Update parts.After before after = Before ∷ (meaning_of_values 1 before ++ After ∷ meaning_of_values 1 after)
 spelled_parts operations.Delete parts.After before after = Before ∷ (meaning_of_values 1 before ++ After ∷ meaning_of_values 1 after)
 
-abbrev pub spelled_row : Option (List ℕ) → Operation → Part → List Value → List Value → List Meaning
+abbrev pub spelled_row : Option (List ℕ) → RowOperation → RowPart → List Value → List Value → List Meaning
 spelled_row None operation part before after = []
 spelled_row (Some table) operation part before after = Row operation table ∷ spelled_parts operation part before after
 
-abbrev pub spelled_open : Stage → Gtid → List Change → List Meaning → List Meaning
+abbrev pub spelled_open : LogStage → Gtid → List Change → List Meaning → List Meaning
 spelled_open stages.Idle gtid changes row = []
 spelled_open stages.Named gtid changes row = Names (gtid_text gtid) ∷ []
 spelled_open stages.Begun gtid changes row = Names (gtid_text gtid) ∷ (flat_map meaning_of_change changes ++ row)
@@ -81,7 +82,7 @@ is_rows bodies.Rows = true
 is_rows bodies.RowsDue = true
 is_rows _ = false
 
-abbrev pub RowFits : Option (List ℕ) → Part → List Value → List Value → Type 0
+abbrev pub RowFits : Option (List ℕ) → RowPart → List Value → List Value → Type 0
 RowFits None part before after = (before ≡ []) × (after ≡ [])
 RowFits (Some table) parts.Head before after = (before ≡ []) × (after ≡ [])
 RowFits (Some table) parts.Before before after = after ≡ []
@@ -101,7 +102,7 @@ pub record Tells (s : Standing) (l : Content) (t : Standing) : Type 0 where
   pub context : context_of t ≡ context_behind (context_of s) l
   pub sound : Sound t
 
-pub stage_begun : (stage : Stage) → is_begun stage ≡ true → stage ≡ stages.Begun
+pub stage_begun : (stage : LogStage) → is_begun stage ≡ true → stage ≡ stages.Begun
 stage_begun stages.Begun e = refl
 stage_begun stages.Named e = absurd cc
 stage_begun stages.Idle e = absurd cc
@@ -113,7 +114,7 @@ abbrev pub bare : Standing → List Change → Standing
 bare s cs = record s { row = None; before = []; after = []; changes = cs }
 
 -- what denotes the row that is open denotes the change that it becomes
-pub change_spelled : (operation : Operation) (part : Part) (table : List ℕ) (before after : List Value) (n : ℕ) → is_whole operation part (length before) (length after) n ≡ true → spelled_row (Some table) operation part before after ≡ meaning_of_change (change_of operation table before after)
+pub change_spelled : (operation : RowOperation) (part : RowPart) (table : List ℕ) (before after : List Value) (n : ℕ) → is_whole operation part (length before) (length after) n ≡ true → spelled_row (Some table) operation part before after ≡ meaning_of_change (change_of operation table before after)
 change_spelled operations.Insert parts.After table before after n e = refl
 change_spelled operations.Delete parts.Before table before after n e = refl
 change_spelled operations.Update parts.After table before after n e = refl
@@ -124,7 +125,7 @@ flat_map_more f [] x = append-nil (f x)
 flat_map_more f (y ∷ ys) x = ap (λ zs. f y ++ zs) (flat_map_more f ys x) ∙ sym (append_assoc (f y) (flat_map f ys) (f x))
 
 -- a whole row that joins the changes means what it meant before
-pub joined_spelled : (stage : Stage) (gtid : Gtid) (cs : List Change) (c : Change) (row : List Meaning) → is_begun stage ≡ true → row ≡ meaning_of_change c → spelled_open stage gtid (cs ++ c ∷ []) [] ≡ spelled_open stage gtid cs row
+pub joined_spelled : (stage : LogStage) (gtid : Gtid) (cs : List Change) (c : Change) (row : List Meaning) → is_begun stage ≡ true → row ≡ meaning_of_change c → spelled_open stage gtid (cs ++ c ∷ []) [] ≡ spelled_open stage gtid cs row
 joined_spelled stages.Idle gtid cs c row b e = absurd cc
 joined_spelled stages.Named gtid cs c row b e = absurd cc
 joined_spelled stages.Begun gtid cs c row b e =
@@ -245,59 +246,56 @@ still s l body sound outside rows closed nothing same = record {
 abbrev pub IsQuiet : Body → Body → Type 0
 IsQuiet old new = (is_rows old ≡ false) × (is_rows new ≡ false) × (is_closed new ≡ true → is_closed old ≡ true)
 
-pub closed_not : {A : Type 0} → false ≡ true → A
-closed_not e = absurd cc
-
 pub comment_quiet : (body : Body) → takes body kinds.Comment ≡ true → IsQuiet body (behind body kinds.Comment)
-comment_quiet bodies.Preamble e = (refl, refl, closed_not)
-comment_quiet bodies.Start e = (refl, refl, closed_not)
-comment_quiet bodies.Gtid e = (refl, refl, closed_not)
-comment_quiet bodies.TableMap e = (refl, refl, closed_not)
-comment_quiet bodies.Payload e = (refl, refl, closed_not)
-comment_quiet bodies.Done e = (refl, refl, closed_not)
+comment_quiet bodies.Preamble e = (refl, refl, never)
+comment_quiet bodies.Start e = (refl, refl, never)
+comment_quiet bodies.Gtid e = (refl, refl, never)
+comment_quiet bodies.TableMap e = (refl, refl, never)
+comment_quiet bodies.Payload e = (refl, refl, never)
+comment_quiet bodies.Done e = (refl, refl, never)
 comment_quiet _ e = absurd cc
 
 pub setting_quiet : (body : Body) → takes body kinds.Setting ≡ true → IsQuiet body (behind body kinds.Setting)
-setting_quiet bodies.Gtid e = (refl, refl, closed_not)
-setting_quiet bodies.Query e = (refl, refl, closed_not)
+setting_quiet bodies.Gtid e = (refl, refl, never)
+setting_quiet bodies.Query e = (refl, refl, never)
 setting_quiet _ e = absurd cc
 
 pub frame_quiet : (body : Body) → takes body kinds.Frame ≡ true → IsQuiet body (behind body kinds.Frame)
-frame_quiet bodies.Preamble e = (refl, refl, closed_not)
-frame_quiet bodies.Start e = (refl, refl, closed_not)
-frame_quiet bodies.FileEnd e = (refl, refl, closed_not)
+frame_quiet bodies.Preamble e = (refl, refl, never)
+frame_quiet bodies.Start e = (refl, refl, never)
+frame_quiet bodies.FileEnd e = (refl, refl, never)
 frame_quiet bodies.Closed e = (refl, refl, (λ e. e))
 frame_quiet _ e = absurd cc
 
 pub sources_quiet : (body : Body) → takes body kinds.Sources ≡ true → IsQuiet body (behind body kinds.Sources)
-sources_quiet bodies.PreviousGtids e = (refl, refl, closed_not)
+sources_quiet bodies.PreviousGtids e = (refl, refl, never)
 sources_quiet _ e = absurd cc
 
 pub ended_quiet : (body : Body) → takes body kinds.Ended ≡ true → IsQuiet body (behind body kinds.Ended)
-ended_quiet bodies.Statement e = (refl, refl, closed_not)
+ended_quiet bodies.Statement e = (refl, refl, never)
 ended_quiet _ e = absurd cc
 
 pub statement_quiet : (body : Body) → takes body kinds.Statement ≡ true → IsQuiet body (behind body kinds.Statement)
-statement_quiet bodies.Query e = (refl, refl, closed_not)
+statement_quiet bodies.Query e = (refl, refl, never)
 statement_quiet _ e = absurd cc
 
 pub committed_quiet : (body : Body) → takes body kinds.Committed ≡ true → IsQuiet body (behind body kinds.Committed)
-committed_quiet bodies.Xid e = (refl, refl, closed_not)
+committed_quiet bodies.Xid e = (refl, refl, never)
 committed_quiet _ e = absurd cc
 
 pub gtid_quiet : (body : Body) → takes body kinds.Gtid ≡ true → IsQuiet body (behind body kinds.Gtid)
-gtid_quiet bodies.Gtid e = (refl, refl, closed_not)
+gtid_quiet bodies.Gtid e = (refl, refl, never)
 gtid_quiet _ e = absurd cc
 
 pub column_quiet : (body : Body) → takes body kinds.Column ≡ true → IsQuiet body (behind body kinds.Column)
-column_quiet bodies.TableMap e = (refl, refl, closed_not)
+column_quiet bodies.TableMap e = (refl, refl, never)
 column_quiet _ e = absurd cc
 
 pub tablemap_quiet : (body : Body) → takes body kinds.TableMap ≡ true → IsQuiet body (behind body kinds.TableMap)
-tablemap_quiet bodies.Between e = (refl, refl, closed_not)
+tablemap_quiet bodies.Between e = (refl, refl, never)
 tablemap_quiet _ e = absurd cc
 
-pub between_only : (body : Body) (kind : Kind) → takes body kinds.Head ≡ true → body ≡ bodies.Between
+pub between_only : (body : Body) (kind : BodyKind) → takes body kinds.Head ≡ true → body ≡ bodies.Between
 between_only bodies.Between kind e = refl
 between_only _ kind e = absurd cc
 
@@ -309,7 +307,7 @@ rows_only _ e = absurd cc
 -- ---- lines that change nothing
 
 -- a line that means nothing, and changes nothing but the place of the next one
-pub neutral : (s : Standing) (l : Content) (kind : Kind) → Sound s → IsQuiet s.body (behind s.body kind) → means (context_of s) l ≡ [] → context_behind (context_of s) l ≡ context_of s → Tells s l (record s { body = behind s.body kind })
+pub neutral : (s : Standing) (l : Content) (kind : BodyKind) → Sound s → IsQuiet s.body (behind s.body kind) → means (context_of s) l ≡ [] → context_behind (context_of s) l ≡ context_of s → Tells s l (record s { body = behind s.body kind })
 neutral s l kind sound q nothing same = still s l (behind s.body kind) sound q.0 q.1 (λ c. sound.closed (q.2 c)) nothing same
 
 pub closed_law : (s : Standing) → Sound s → takes s.body kinds.Closed ≡ true → is_idle s.stage ≡ true → Tells s (OfMark marks.Closed) (record s { body = bodies.Closed })
@@ -321,7 +319,7 @@ closed_law s sound at idle = still s (OfMark marks.Closed) bodies.Closed sound (
 
 -- ---- transactions
 
-stage_named : (stage : Stage) → is_named stage ≡ true → stage ≡ stages.Named
+stage_named : (stage : LogStage) → is_named stage ≡ true → stage ≡ stages.Named
 stage_named stages.Named e = refl
 stage_named stages.Idle e = absurd cc
 stage_named stages.Begun e = absurd cc
@@ -336,14 +334,14 @@ begin_law s t sound at h =
     subst (λ (u : Standing). Tells s (OfMark marks.Begin) (record u { body = bodies.Statement })) p.1 (record {
       spells =
           ap (λ (xs : List Meaning). meaning_of_entries s.entries ++ (Names (gtid_text s.gtid) ∷ xs)) ((λ i. flat_map meaning_of_change (quiet.0 i) ++ row_none i))
-          ∙ ap (λ (stage : Stage). meaning_of_entries s.entries ++ spelled_open stage s.gtid s.changes (row_of s)) (sym named)
+          ∙ ap (λ (stage : LogStage). meaning_of_entries s.entries ++ spelled_open stage s.gtid s.changes (row_of s)) (sym named)
           ∙ sym (append-nil (spelled_state s));
       context = refl;
       sound = record {
         quiet = λ b. absurd (let bad : true ≡ false = b in cc);
         inside = λ b. quiet.1;
         begun = λ b. refl;
-        closed = λ c. closed_not c;
+        closed = λ c. never c;
         due = λ d. quiet.1;
         fits = sound.fits;
       };
@@ -361,13 +359,13 @@ flush_law s t sound at h =
     ∙ flat_map_more meaning_of_entry s.entries (entry_of s.gtid [])
     ∙ sym (append_assoc (meaning_of_entries s.entries) (Names (gtid_text s.gtid) ∷ []) (Commits ∷ [])) in
     subst (λ (u : Standing). Tells s (OfMark marks.Flush) (record u { body = bodies.Statement })) p.1 (record {
-      spells = new ∙ ap (λ (stage : Stage). (meaning_of_entries s.entries ++ spelled_open stage s.gtid s.changes (row_of s)) ++ Commits ∷ []) (sym named);
+      spells = new ∙ ap (λ (stage : LogStage). (meaning_of_entries s.entries ++ spelled_open stage s.gtid s.changes (row_of s)) ++ Commits ∷ []) (sym named);
       context = refl;
       sound = record {
         quiet = λ b. quiet;
         inside = λ b. quiet.1;
         begun = λ b. absurd (let bad : true ≡ false = sym b in cc);
-        closed = λ c. closed_not c;
+        closed = λ c. never c;
         due = λ d. quiet.1;
         fits = sound.fits;
       };
@@ -416,7 +414,7 @@ gtid_law s t word sound at h =
       spells =
           ap (λ (xs : List ℕ). meaning_of_entries s.entries ++ Names xs ∷ []) (sym text)
           ∙ ap (λ (xs : List Meaning). xs ++ Names word ∷ []) (sym (append-nil (meaning_of_entries s.entries)))
-          ∙ ap (λ (stage : Stage). (meaning_of_entries s.entries ++ spelled_open stage s.gtid s.changes (row_of s)) ++ Names word ∷ []) (sym idle);
+          ∙ ap (λ (stage : LogStage). (meaning_of_entries s.entries ++ spelled_open stage s.gtid s.changes (row_of s)) ++ Names word ∷ []) (sym idle);
       context = refl;
       sound = record {
         quiet = λ b. quiet;
@@ -428,7 +426,7 @@ gtid_law s t word sound at h =
       };
     })
   where
-    stage_idle : (stage : Stage) → is_idle stage ≡ true → stage ≡ stages.Idle
+    stage_idle : (stage : LogStage) → is_idle stage ≡ true → stage ≡ stages.Idle
     stage_idle stages.Idle e = refl
     stage_idle stages.Named e = absurd cc
     stage_idle stages.Begun e = absurd cc
@@ -441,7 +439,7 @@ gtid_law s t word sound at h =
     named s word None t e = absurd cc
     named s word (Some g) t e = (g, refl, same_ok _ t e)
 
-    idle_or : (stage : Stage) (s : Standing) (word : List ℕ) (t : Standing) → cond (not (is_idle stage)) (Err refusals.Gtid) (or_refused refusals.Gtid (gtid_of_word word) >>= λ g. Ok (with_gtid s g)) ≡ Ok t → (is_idle stage ≡ true) × (g : Gtid) × (gtid_of_word word ≡ Some g) × (with_gtid s g ≡ t)
+    idle_or : (stage : LogStage) (s : Standing) (word : List ℕ) (t : Standing) → cond (not (is_idle stage)) (Err refusals.Gtid) (or_refused refusals.Gtid (gtid_of_word word) >>= λ g. Ok (with_gtid s g)) ≡ Ok t → (is_idle stage ≡ true) × (g : Gtid) × (gtid_of_word word ≡ Some g) × (with_gtid s g ≡ t)
     idle_or stages.Idle s word t e = let n = named s word (gtid_of_word word) t e in (refl, n.0, n.1, n.2)
     idle_or stages.Named s word t e = absurd cc
     idle_or stages.Begun s word t e = absurd cc

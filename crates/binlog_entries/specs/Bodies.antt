@@ -1,16 +1,16 @@
 -- Which lines are allowed where in the text of a binary log.
 use Rattle.std.specs.Prelude.{Bool, true, false, if◌then◌else◌}
-use Rattle.binlog_text.specs.declared.lines.Event.{Event}
-use Rattle.binlog_text.specs.declared.lines.Event.TheVariants as events
+use Rattle.binlog_text.specs.declared.lines.LogEvent.{LogEvent}
+use Rattle.binlog_text.specs.declared.lines.LogEvent.TheVariants as events
 use Rattle.binlog_text.specs.declared.lines.Mark.{Mark}
 use Rattle.binlog_text.specs.declared.lines.Mark.TheVariants as marks
 use Rattle.binlog_text.specs.Lines.{Content, OfMark, OfHead, OfTable, OfColumn, OfGtid, OfSources, OfRow, OfValue}
 use Rattle.binlog_entries.specs.declared.bodies.Body.{Body}
 use Rattle.binlog_entries.specs.declared.bodies.Body.TheVariants as bodies
-use Rattle.binlog_entries.specs.declared.bodies.Kind.{Kind}
-use Rattle.binlog_entries.specs.declared.bodies.Kind.TheVariants as kinds
+use Rattle.binlog_entries.specs.declared.bodies.BodyKind.{BodyKind}
+use Rattle.binlog_entries.specs.declared.bodies.BodyKind.TheVariants as kinds
 
-abbrev pub kind_of_mark : Mark → Kind
+abbrev pub kind_of_mark : Mark → BodyKind
 kind_of_mark marks.Place = kinds.Place
 kind_of_mark marks.Where = kinds.Row
 kind_of_mark marks.Set = kinds.Row
@@ -28,7 +28,7 @@ kind_of_mark marks.Frame = kinds.Frame
 kind_of_mark marks.Extra = kinds.Extra
 kind_of_mark marks.Flush = kinds.Statement
 
-abbrev pub kind_of : Content → Kind
+abbrev pub kind_of : Content → BodyKind
 kind_of (OfMark mark) = kind_of_mark mark
 kind_of (OfHead event) = kinds.Head
 kind_of (OfTable database table) = kinds.TableMap
@@ -43,7 +43,7 @@ abbrev pub rows_body : Bool → Body
 rows_body ends = if ends then bodies.RowsDue else bodies.Done
 
 -- what the lines after an event's head are a part of
-abbrev pub body_of : Event → Body
+abbrev pub body_of : LogEvent → Body
 body_of events.Start = bodies.Start
 body_of events.PreviousGtids = bodies.PreviousGtids
 body_of events.Gtid = bodies.Gtid
@@ -78,7 +78,7 @@ has_comments bodies.Done = true
 has_comments _ = false
 
 -- a line of this kind may be in this body
-abbrev pub takes : Body → Kind → Bool
+abbrev pub takes : Body → BodyKind → Bool
 takes body kinds.Place = may_end body
 takes body kinds.Automatic = may_end body
 takes body kinds.Comment = has_comments body
@@ -108,8 +108,8 @@ abbrev pub row_behind : Body → Body
 row_behind bodies.RowsDue = bodies.Rows
 row_behind body = body
 
--- what the line after one of this kind is a part of, where that is no head of an event
-abbrev pub behind : Body → Kind → Body
+-- what the line after one of this kind is a part of, if that is no head of an event
+abbrev pub behind : Body → BodyKind → Body
 behind body kinds.Place = bodies.Between
 behind body kinds.TableMap = bodies.TableMap
 behind body kinds.Statement = bodies.Statement

@@ -1,9 +1,9 @@
 -- How far a draft's lines have come.
 use Rattle.std.specs.Prelude.{option_map}
 use Rattle.binlog_entries.specs.Machine.{Standing}
-use Rattle.binlog_entries.specs.declared.draft.Draft.{Draft}
+use Rattle.binlog_entries.specs.declared.draft.LogDraft.{LogDraft}
 
-abbrev pub standing : Draft → Standing
+abbrev pub standing : LogDraft → Standing
 standing d = record {
   body = d.body;
   stage = d.stage;

@@ -49,14 +49,13 @@ pub record HasVariedKey (tables : List Table) (opening : Gtids) (table : List �
   pub log : IsLog opening text previous entries varied
   pub key : varied_key tables varied ≡ Some (table, column)
 
--- the fault names the first column of a key that the server compares otherwise than its bytes, or memory was refused for it
+-- the fault names the first column of a key that the server does not compare by its bytes, or out of memory for it
 abbrev pub IsKeyFault : List Table → Bool → List Varied → ImportFault → Type 0
 IsKeyFault tables bytes varied (faults.Key table column) = (bytes ≡ false) × (varied_key tables varied ≡ Some (table, column))
 IsKeyFault tables bytes varied (faults.Text fault) = fault ≡ reads.Set Memory
 IsKeyFault tables bytes varied (faults.Log fault) = ⊥
 
--- A line is refused, or else a key, where keys are tested, or else an entry. Where memory was refused for the journal, nothing is
--- claimed of it.
+-- A line is refused, or else a key, if keys are tested, or else an entry. If there was no memory for the journal, nothing is claimed of it.
 abbrev pub IsNoImport : List Table → Gtids → Bool → ImportFault → List ℕ → Type 0
 IsNoImport tables opening bytes (faults.Text fault) text = Refuses opening fault text
 IsNoImport tables opening bytes (faults.Key table column) text = (bytes ≡ false) × HasVariedKey tables opening table column text

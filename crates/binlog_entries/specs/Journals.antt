@@ -15,11 +15,11 @@ use Rattle.binlog_entries.specs.declared.as_journal.LogFault.TheVariants as faul
 abbrev pub are_numbered : List Entry → Bool
 are_numbered entries = list_all (λ e. is_number e.gtid.number) entries
 
--- an entry that is no larger than one may be follows, where these GTIDs were seen, and its own was not
+-- an entry that is no larger than one may be follows, if these GTIDs were seen, and its own was not
 abbrev pub MayFollow : Gtids → Entry → Type 0
 MayFollow seen e = (set.contains seen e.gtid ≡ false) × (is_writable e ≡ true)
 
--- why an entry does not follow, where these GTIDs were seen: one that may has too many sources or intervals with them, or memory was refused
+-- why an entry does not follow, if these GTIDs were seen: one that may has too many sources or intervals with them, or out of memory
 abbrev pub MayNotFollow : LogFault → Gtids → Entry → Type 0
 MayNotFollow (faults.Set fault) seen e =
     IsMemoryOr (MayFollow seen e × HasManySources (set.insert seen e.gtid)) (MayFollow seen e × HasManyIntervals (set.insert seen e.gtid)) fault
@@ -45,7 +45,7 @@ pub record HasUnfit (fault : LogFault) (previous : Gtids) (entries : List Entry)
   pub follow : AllFollow previous before
   pub refused : MayNotFollow fault (seen_behind previous before) entry
 
--- where memory was refused, nothing is claimed of them
+-- if out of memory, nothing is claimed of them
 abbrev pub IsNoJournal : LogFault → Gtids → List Entry → Type 0
 IsNoJournal (faults.Set fault) previous entries = IsMemoryOr (HasUnfit (faults.Set SourcesFull) previous entries) (HasUnfit (faults.Set PoolFull) previous entries) fault
 IsNoJournal (faults.Twice gtid) previous entries = HasUnfit (faults.Twice gtid) previous entries

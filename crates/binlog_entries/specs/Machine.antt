@@ -16,12 +16,12 @@ use Rattle.txn_journal.specs.Words.{name_of}
 use Rattle.binlog_text.specs.declared.types.ColumnType.{ColumnType}
 use Rattle.binlog_text.specs.Types.{parse_type}
 use Rattle.binlog_text.specs.Values.{value_at}
-use Rattle.binlog_text.specs.declared.lines.Event.{Event}
-use Rattle.binlog_text.specs.declared.lines.Event.TheVariants as events
+use Rattle.binlog_text.specs.declared.lines.LogEvent.{LogEvent}
+use Rattle.binlog_text.specs.declared.lines.LogEvent.TheVariants as events
 use Rattle.binlog_text.specs.declared.lines.Mark.{Mark}
 use Rattle.binlog_text.specs.declared.lines.Mark.TheVariants as marks
-use Rattle.binlog_text.specs.declared.lines.Operation.{Operation}
-use Rattle.binlog_text.specs.declared.lines.Operation.TheVariants as operations
+use Rattle.binlog_text.specs.declared.lines.RowOperation.{RowOperation}
+use Rattle.binlog_text.specs.declared.lines.RowOperation.TheVariants as operations
 use Rattle.binlog_text.specs.Lines.{Column, Content, OfMark, OfHead, OfTable, OfColumn, OfGtid, OfSources, OfRow, OfValue}
 use Rattle.binlog_text.specs.Reading.{line_of}
 use Rattle.binlog_entries.specs.Tables.{Table, find_table, with_mapping, type_at}
@@ -34,10 +34,10 @@ use Rattle.binlog_entries.specs.declared.bodies.Body.{Body}
 use Rattle.binlog_entries.specs.declared.bodies.Body.TheVariants as bodies
 use Rattle.binlog_entries.specs.declared.draft.File.{File}
 use Rattle.binlog_entries.specs.declared.draft.File.TheVariants as files
-use Rattle.binlog_entries.specs.declared.draft.Stage.{Stage}
-use Rattle.binlog_entries.specs.declared.draft.Stage.TheVariants as stages
-use Rattle.binlog_entries.specs.declared.draft.Part.{Part}
-use Rattle.binlog_entries.specs.declared.draft.Part.TheVariants as parts
+use Rattle.binlog_entries.specs.declared.draft.LogStage.{LogStage}
+use Rattle.binlog_entries.specs.declared.draft.LogStage.TheVariants as stages
+use Rattle.binlog_entries.specs.declared.draft.RowPart.{RowPart}
+use Rattle.binlog_entries.specs.declared.draft.RowPart.TheVariants as parts
 use Rattle.binlog_entries.specs.declared.fault.EntryFault.{EntryFault}
 use Rattle.binlog_entries.specs.declared.fault.EntryFault.TheVariants as faults
 use Rattle.binlog_entries.specs.declared.fault.EntryRefusal.{EntryRefusal}
@@ -75,7 +75,7 @@ Finds view (Err (faults.Set fault)) read = fault ≡ Memory
 -- how far the lines have come
 pub record Standing : Type 0 where
   pub body : Body
-  pub stage : Stage
+  pub stage : LogStage
   -- of the transaction that is open
   pub gtid : Gtid
   -- whether no GTID has come, and what was executed before, by the files
@@ -95,8 +95,8 @@ pub record Standing : Type 0 where
   pub tables : List Table
   -- the row that is open, by its table, what is done to it, and what has come of its images
   pub row : Option (List ℕ)
-  pub operation : Operation
-  pub part : Part
+  pub operation : RowOperation
+  pub part : RowPart
   pub before : List Value
   pub after : List Value
   -- of the transaction that is open, and of those before it
@@ -105,19 +105,19 @@ pub record Standing : Type 0 where
   -- columns whose values the server compares otherwise than their bytes
   pub varied : List Varied
 
-abbrev pub is_idle : Stage → Bool
+abbrev pub is_idle : LogStage → Bool
 is_idle stages.Idle = true
 is_idle _ = false
 
-abbrev pub is_named : Stage → Bool
+abbrev pub is_named : LogStage → Bool
 is_named stages.Named = true
 is_named _ = false
 
-abbrev pub is_begun : Stage → Bool
+abbrev pub is_begun : LogStage → Bool
 is_begun stages.Begun = true
 is_begun _ = false
 
-abbrev pub same_stage : Stage → Stage → Bool
+abbrev pub same_stage : LogStage → LogStage → Bool
 same_stage stages.Idle = is_idle
 same_stage stages.Named = is_named
 same_stage stages.Begun = is_begun
@@ -125,13 +125,13 @@ same_stage stages.Begun = is_begun
 -- ---- rows
 
 -- an image has a value for each column, and there are those that the operation has
-abbrev pub is_whole : Operation → Part → ℕ → ℕ → ℕ → Bool
+abbrev pub is_whole : RowOperation → RowPart → ℕ → ℕ → ℕ → Bool
 is_whole operations.Insert parts.After before after columns = after == columns
 is_whole operations.Delete parts.Before before after columns = before == columns
 is_whole operations.Update parts.After before after columns = (before == columns) && (after == columns)
 is_whole _ _ before after columns = false
 
-abbrev pub change_of : Operation → List ℕ → List Value → List Value → Change
+abbrev pub change_of : RowOperation → List ℕ → List Value → List Value → Change
 change_of operations.Insert table before after = changes.Insert table after
 change_of operations.Delete table before after = changes.Delete table before
 change_of operations.Update table before after = changes.Update table before after
@@ -163,28 +163,28 @@ abbrev pub may_be_database : List ℕ → Option (List ℕ) → Bool
 may_be_database name None = true
 may_be_database name (Some database) = bytes_eq database name
 
-abbrev pub open_row : Standing → Operation → Option (List ℕ) → Result Standing EntryRefusal
+abbrev pub open_row : Standing → RowOperation → Option (List ℕ) → Result Standing EntryRefusal
 open_row s operation None = Err refusals.Table
 open_row s operation (Some table) = Ok (record s { row = Some table; operation = operation; part = parts.Head })
 
 abbrev pub known_name : List ℕ → List Table → Option (List ℕ)
 known_name table tables = if is_some (find_table table tables) then name_of table else None
 
-abbrev pub begin_row : Standing → Operation → List ℕ → List ℕ → Result Standing EntryRefusal
+abbrev pub begin_row : Standing → RowOperation → List ℕ → List ℕ → Result Standing EntryRefusal
 begin_row s operation database table =
     if not (is_database database s.database) then Err refusals.Table
     else open_row s operation (known_name table s.tables)
 
-unfoldable pub row_line : Standing → Operation → List ℕ → List ℕ → Result Standing EntryRefusal
+unfoldable pub row_line : Standing → RowOperation → List ℕ → List ℕ → Result Standing EntryRefusal
 row_line s operation database table = finish_row s >>= λ t. begin_row t operation database table
 
--- the part that a line begins, where the row may have it next
-abbrev pub before_due : Operation → Part → Bool
+-- the part that a line begins, if the row may have it next
+abbrev pub before_due : RowOperation → RowPart → Bool
 before_due operations.Update parts.Head = true
 before_due operations.Delete parts.Head = true
 before_due _ _ = false
 
-abbrev pub after_due : Operation → Part → Bool
+abbrev pub after_due : RowOperation → RowPart → Bool
 after_due operations.Insert parts.Head = true
 after_due operations.Update parts.Before = true
 after_due _ _ = false
@@ -203,7 +203,7 @@ parse_value (Some type) text = or_refused refusals.Value (value_at type text)
 abbrev pub next_value : Standing → ℕ → ℕ → List ℕ → Result Value EntryRefusal
 next_value s place n text = if n == place + 1 then parse_value (type_at s.row s.tables place) text else Err refusals.Columns
 
-abbrev pub value_in : Standing → Part → ℕ → List ℕ → Result Standing EntryRefusal
+abbrev pub value_in : Standing → RowPart → ℕ → List ℕ → Result Standing EntryRefusal
 value_in s parts.Head n text = Err refusals.Columns
 value_in s parts.Before n text = do
   v ← next_value s (length s.before) n text
@@ -299,7 +299,7 @@ sources_line s word = do
   gtids ← or_refused refusals.Gtid (set_of_word word)
   join_sources s gtids
 
-unfoldable pub head_line : Standing → Event → Result Standing EntryRefusal
+unfoldable pub head_line : Standing → LogEvent → Result Standing EntryRefusal
 head_line s (events.Rows operation ends) = if is_begun s.stage then Ok (record s { is_over = true; is_open = not ends }) else Err refusals.Transaction
 head_line s events.PreviousGtids = Ok (record s { file = next_file s.file })
 head_line s _ = Ok s
@@ -351,13 +351,13 @@ judge s text = step_by s text (line_of text)
 
 -- ---- faults of lines with which nothing is wrong
 
--- it is so of the set that a word names, or of that set with what was executed before, or with what came, where it joins them
+-- it is so of the set that a word names, or of that set with what was executed before, or with what came, if it joins them
 abbrev pub OfNamed : (Gtids → Type 0) → Standing → Option Gtids → Type 0
 OfNamed Has s None = ⊥
 OfNamed Has s (Some gtids) =
     Has gtids ⊎ (((s.is_fresh ≡ true) × Has (set.union s.previous gtids)) ⊎ ((is_later s.file ≡ false) × Has (set.union s.come gtids)))
 
--- memory was refused, or the set that a word names, or that set with what was executed before or came, has too many sources or intervals
+-- out of memory, or the set that a word names, or that set with what was executed before or came, has too many sources or intervals
 abbrev pub IsSourcesFault : Standing → List ℕ → SetFault → Type 0
 IsSourcesFault s word fault = IsMemoryOr (OfNamed HasManySources s (set_of_word word)) (OfNamed HasManyIntervals s (set_of_word word)) fault
 
@@ -366,7 +366,7 @@ abbrev pub WithNamed : (Gtids → Type 0) → Gtids → Option Gtid → Type 0
 WithNamed Has come None = ⊥
 WithNamed Has come (Some gtid) = Has (set.insert come gtid)
 
--- memory was refused, or what came has too many sources or intervals with the GTID that a word names
+-- out of memory, or what came has too many sources or intervals with the GTID that a word names
 abbrev pub IsGtidFault : Standing → List ℕ → SetFault → Type 0
 IsGtidFault s word fault = IsMemoryOr (WithNamed HasManySources s.come (gtid_of_word word)) (WithNamed HasManyIntervals s.come (gtid_of_word word)) fault
 
@@ -397,12 +397,12 @@ abbrev pub IsFaultBy : Standing → Option Content → SetFault → Type 0
 IsFaultBy s None fault = ⊥
 IsFaultBy s (Some l) fault = IsStepFault s l fault
 
--- Why a line is not taken, though nothing is wrong with it: memory was refused for its content, or a set that it names is full. A line
--- without content, or that may not be there, has no such fault.
+-- Why a line is not taken, though nothing is wrong with it: no memory for its content, or a set that it names is full. A line without
+-- content, or that may not be there, has no such fault.
 abbrev pub IsLineFault : Standing → List ℕ → SetFault → Type 0
 IsLineFault s text fault = IsFaultBy s (line_of text) fault
 
--- before the first line, where these GTIDs are in the opening set
+-- before the first line, if these GTIDs are in the opening set
 abbrev pub start : Gtids → Standing
 start opening = record {
   body = bodies.Preamble;

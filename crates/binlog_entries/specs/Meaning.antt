@@ -1,5 +1,5 @@
 -- What lines mean, and what entries denote.
-use Rattle.std.specs.Prelude.{◌≡◌, ℕ, ◌+◌, ◌-◌, ◌||◌, not, Bool, true, false, List, [], ◌∷◌, ◌++◌, Option, Some, None, if◌then◌else◌}
+use Rattle.std.specs.Prelude.{◌≡◌, ℕ, ◌+◌, ◌-◌, ◌||◌, not, Bool, true, false, List, [], ◌∷◌, ◌++◌, Option, Some, None, Ok, if◌then◌else◌}
 use Rattle.std.specs.List.{flat_map}
 use Rattle.std.specs.FinSet as set
 use Rattle.gtid_set.specs.Sets.{Gtids}
@@ -13,12 +13,12 @@ use Rattle.rows.specs.declared.change.Change.TheVariants as changes
 use Rattle.binlog_text.specs.declared.types.ColumnType.{ColumnType}
 use Rattle.binlog_text.specs.Types.{parse_type}
 use Rattle.binlog_text.specs.Values.{value_at}
-use Rattle.binlog_text.specs.declared.lines.Event.{Event}
-use Rattle.binlog_text.specs.declared.lines.Event.TheVariants as events
+use Rattle.binlog_text.specs.declared.lines.LogEvent.{LogEvent}
+use Rattle.binlog_text.specs.declared.lines.LogEvent.TheVariants as events
 use Rattle.binlog_text.specs.declared.lines.Mark.{Mark}
 use Rattle.binlog_text.specs.declared.lines.Mark.TheVariants as marks
-use Rattle.binlog_text.specs.declared.lines.Operation.{Operation}
-use Rattle.binlog_text.specs.declared.lines.Operation.TheVariants as operations
+use Rattle.binlog_text.specs.declared.lines.RowOperation.{RowOperation}
+use Rattle.binlog_text.specs.declared.lines.RowOperation.TheVariants as operations
 use Rattle.binlog_text.specs.Lines.{Content, OfMark, OfHead, OfTable, OfColumn, OfGtid, OfSources, OfRow, OfValue}
 use Rattle.binlog_entries.specs.Tables.{Table, with_mapping, type_at}
 use Rattle.binlog_entries.specs.Files.{next_file, has_come, come_behind}
@@ -26,11 +26,12 @@ use Rattle.binlog_entries.specs.Varied.{varied_behind}
 use Rattle.binlog_entries.specs.declared.varied.Varied.{Varied}
 use Rattle.binlog_entries.specs.declared.draft.File.{File}
 use Rattle.binlog_entries.specs.declared.draft.File.TheVariants as files
+use Rattle.binlog_entries.specs.Machine.{Standing, runs, start, is_closed}
 
 -- what a line means for transactions: a GTID, a row of a table, the images of a row with the values of their columns, and the end
 pub data Meaning : Type 0 where
   Names : List ℕ → Meaning
-  Row : Operation → List ℕ → Meaning
+  Row : RowOperation → List ℕ → Meaning
   Before : Meaning
   After : Meaning
   Holds : ℕ → Option Value → Meaning
@@ -108,7 +109,7 @@ behind_mark c marks.Frame = c
 behind_mark c marks.Extra = c
 behind_mark c marks.Flush = c
 
-abbrev pub behind_head : Context → Event → Context
+abbrev pub behind_head : Context → LogEvent → Context
 behind_head c (events.Rows operation ends) = record { is_over = true; mapping = c.mapping; tables = c.tables; row = c.row }
 behind_head c events.Start = c
 behind_head c events.PreviousGtids = c
@@ -177,7 +178,7 @@ row_comes (OfRow operation database table ∷ ls) = true
 row_comes (_ ∷ ls) = false
 
 -- the head of a rows event that ends its statement has a row behind it
-abbrev pub head_has_rows : Event → List Content → Bool
+abbrev pub head_has_rows : LogEvent → List Content → Bool
 head_has_rows (events.Rows operation ends) ls = not ends || row_comes ls
 head_has_rows _ ls = true
 
@@ -193,7 +194,7 @@ has_rows is_open (OfMark mark) ls = may_commit is_open mark
 has_rows is_open _ ls = true
 
 -- whether a statement of rows is open behind the head of an event: one is behind a rows event that doesn't end it
-abbrev pub open_behind : Bool → Event → Bool
+abbrev pub open_behind : Bool → LogEvent → Bool
 open_behind is_open (events.Rows operation ends) = not ends
 open_behind is_open _ = is_open
 
@@ -261,3 +262,7 @@ meaning_of_entry e = Names (gtid_text e.gtid) ∷ (flat_map meaning_of_change e.
 -- what entries denote, in order
 abbrev pub meaning_of_entries : List Entry → List Meaning
 meaning_of_entries entries = flat_map meaning_of_entry entries
+
+-- What lines of a whole log mean is what their entries mean.
+abbrev pub LinesMeanEntries : Type 0
+LinesMeanEntries = (opening : Gtids) (lines : List Content) (s : Standing) → runs (start opening) lines ≡ Ok s → is_closed s.body ≡ true → meaning nowhere lines ≡ meaning_of_entries s.entries

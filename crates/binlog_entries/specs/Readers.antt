@@ -2,9 +2,9 @@
 use Rattle.binlog_entries.specs.declared.draft.Log.{Log}
 use Rattle.binlog_entries.specs.Drafts.{standing}
 use Rattle.binlog_entries.specs.Stream.{LogValue, Progress, Reading, unless_stopped}
-use Rattle.binlog_entries.specs.declared.reader.Reader.{Reader}
+use Rattle.binlog_entries.specs.declared.reader.LogReader.{LogReader}
 
-abbrev pub progress : Reader → Progress
+abbrev pub progress : LogReader → Progress
 progress r = unless_stopped r.stopped (Reading (standing r.draft) r.lines r.rest.items)
 
 -- what a log is seen as

@@ -18,7 +18,7 @@ use Rattle.binlog_entries.specs.declared.fault.EntryRefusal.{EntryRefusal}
 use Rattle.binlog_entries.specs.declared.fault.EntryRefusal.TheVariants as refusals
 use Rattle.binlog_entries.specs.declared.draft.File.TheVariants as files
 
--- How far the reading has come: so many whole lines, and the bytes of the next; or it has stopped.
+-- How far the reading has come: how many whole lines, and the bytes of the next; or it has stopped.
 pub data Progress : Type 0 where
   Reading : Standing → ℕ → List ℕ → Progress
   Stopped : ReadFault → Progress
@@ -49,7 +49,7 @@ abbrev pub feed_bytes : Progress → List ℕ → Progress
 feed_bytes p [] = p
 feed_bytes p (b ∷ bs) = feed_bytes (feed_byte p b) bs
 
--- before the first byte, where these GTIDs are in the opening set
+-- before the first byte, if these GTIDs are in the opening set
 abbrev pub start : Gtids → Progress
 start opening = Reading (machine.start opening) 0 []
 
@@ -75,8 +75,8 @@ pub record HasLineFault (p : Progress) (bytes : List ℕ) (fault : SetFault) : T
   pub read : feed_bytes p front ≡ Reading state number part
   pub may : IsLineFault state (part ++ line) fault
 
--- Why bytes that end a line are not taken, though nothing is wrong with them: one of their lines has a fault, or memory was refused to join a line
--- that has come in parts.
+-- Why bytes that end a line are not taken, though nothing is wrong with them: one of their lines has a fault, or there is no memory to join
+-- a line that has come in parts.
 abbrev pub IsEndFault : Progress → List ℕ → SetFault → Type 0
 IsEndFault p bytes fault = HasLineFault p bytes fault ⊎ ((fault ≡ Memory) × HasPart p)
 
@@ -108,7 +108,7 @@ Seen view (Err fault) = Err fault
 abbrev pub LogValue : Type 0
 LogValue = Gtids × List Entry × List Varied
 
--- whether a text may end after so many lines and part of one more
+-- whether a text may end after this many lines and part of one more
 abbrev pub ends_at : Bool → ℕ → List ℕ → Result (Unit {0}) ReadFault
 ends_at false n rest = Err (faults.Unfinished (next_number n))
 ends_at true n [] = Ok tt

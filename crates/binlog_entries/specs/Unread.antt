@@ -56,7 +56,7 @@ is_mariadb_line text =
     || (starts_with nat_eq text (codes "/*M!")
     || starts_with nat_eq text (codes "/*!40019 SET @@session.max_delayed_threads="))
 
--- where a row is owed, whatever else comes shows that it lacks
+-- if a row is owed, whatever else comes shows that it lacks
 abbrev pub refusal_of : Body → List ℕ → EntryRefusal
 refusal_of body text =
     if is_row_due body then refusals.Rows

@@ -19,7 +19,7 @@ use thiserror::Error;
 /// Why a log is no journal.
 #[derive(Drop, Error)]
 pub enum LogFault {
-    /// Memory was refused, or a set is full.
+    /// Out of memory, or a set is full.
     #[error("{0}")]
     Set(SetFault),
     /// The GTID of an entry was executed before, or is that of an earlier entry.

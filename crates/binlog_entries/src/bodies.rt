@@ -3,7 +3,7 @@ ghost use Rattle.std.specs.Prelude.{◌≡◌};
 ghost use Rattle.binlog_text.specs.Contents.{content_of};
 ghost use Rattle.binlog_entries.specs.Bodies.{kind_of_mark, kind_of, rows_body, body_of, is_row_due, row_behind, may_end, has_comments, takes, behind, next_body};
 
-use binlog_text::{Event, Line, Mark};
+use binlog_text::{LogEvent, LogLine, Mark};
 
 /// What the next line is a part of.
 #[derive(Clone, Copy, Debug, PartialEq, Eq)]
@@ -35,7 +35,7 @@ pub enum Body {
 
 /// The kinds of lines, as far as they determine where a line is allowed.
 #[derive(Clone, Copy, Debug, PartialEq, Eq)]
-pub enum Kind {
+pub enum BodyKind {
     Place,
     Comment,
     Setting,
@@ -54,42 +54,42 @@ pub enum Kind {
     Extra,
 }
 
-fn kind_of_mark(mark: Mark) -> Kind
+fn kind_of_mark(mark: Mark) -> BodyKind
     ensures { result ≡ kind_of_mark mark }
 {
     match mark {
-        Mark::Place => Kind::Place,
-        Mark::Where => Kind::Row,
-        Mark::Set => Kind::Row,
-        Mark::Begin => Kind::Statement,
-        Mark::Commit => Kind::Statement,
-        Mark::Ended => Kind::Ended,
-        Mark::Committed => Kind::Committed,
-        Mark::Savepoint => Kind::Statement,
-        Mark::Automatic => Kind::Automatic,
-        Mark::Empty => Kind::Sources,
-        Mark::Closed => Kind::Closed,
-        Mark::Comment => Kind::Comment,
-        Mark::Setting => Kind::Setting,
-        Mark::Frame => Kind::Frame,
-        Mark::Extra => Kind::Extra,
-        Mark::Flush => Kind::Statement,
+        Mark::Place => BodyKind::Place,
+        Mark::Where => BodyKind::Row,
+        Mark::Set => BodyKind::Row,
+        Mark::Begin => BodyKind::Statement,
+        Mark::Commit => BodyKind::Statement,
+        Mark::Ended => BodyKind::Ended,
+        Mark::Committed => BodyKind::Committed,
+        Mark::Savepoint => BodyKind::Statement,
+        Mark::Automatic => BodyKind::Automatic,
+        Mark::Empty => BodyKind::Sources,
+        Mark::Closed => BodyKind::Closed,
+        Mark::Comment => BodyKind::Comment,
+        Mark::Setting => BodyKind::Setting,
+        Mark::Frame => BodyKind::Frame,
+        Mark::Extra => BodyKind::Extra,
+        Mark::Flush => BodyKind::Statement,
     }
 }
 
 /// The kind of a line.
-pub fn kind_of(line: &Line<'_>) -> Kind
+pub fn kind_of(line: &LogLine<'_>) -> BodyKind
     ensures { result ≡ kind_of (content_of line.now) }
 {
     match line {
-        Line::Mark(mark) => kind_of_mark(*mark),
-        Line::Head(_) => Kind::Head,
-        Line::TableMap(_, _) => Kind::TableMap,
-        Line::Column(_) => Kind::Column,
-        Line::Gtid(_) => Kind::Gtid,
-        Line::Sources(_, _) => Kind::Sources,
-        Line::Row(_, _, _) => Kind::Row,
-        Line::Value(_, _) => Kind::Row,
+        LogLine::Mark(mark) => kind_of_mark(*mark),
+        LogLine::Head(_) => BodyKind::Head,
+        LogLine::TableMap(_, _) => BodyKind::TableMap,
+        LogLine::Column(_) => BodyKind::Column,
+        LogLine::Gtid(_) => BodyKind::Gtid,
+        LogLine::Sources(_, _) => BodyKind::Sources,
+        LogLine::Row(_, _, _) => BodyKind::Row,
+        LogLine::Value(_, _) => BodyKind::Row,
     }
 }
 
@@ -101,19 +101,19 @@ fn rows_body(ends: bool) -> Body
 }
 
 /// The body of an event.
-fn body_of(event: Event) -> Body
+fn body_of(event: LogEvent) -> Body
     ensures { result ≡ body_of event }
 {
     match event {
-        Event::Start => Body::Start,
-        Event::PreviousGtids => Body::PreviousGtids,
-        Event::Gtid => Body::Gtid,
-        Event::Query => Body::Query,
-        Event::Rows(_, ends) => rows_body(ends),
-        Event::Xid => Body::Xid,
-        Event::Payload => Body::Payload,
-        Event::Rotate => Body::Done,
-        Event::Stop => Body::Done,
+        LogEvent::Start => Body::Start,
+        LogEvent::PreviousGtids => Body::PreviousGtids,
+        LogEvent::Gtid => Body::Gtid,
+        LogEvent::Query => Body::Query,
+        LogEvent::Rows(_, ends) => rows_body(ends),
+        LogEvent::Xid => Body::Xid,
+        LogEvent::Payload => Body::Payload,
+        LogEvent::Rotate => Body::Done,
+        LogEvent::Stop => Body::Done,
     }
 }
 
@@ -155,29 +155,29 @@ impl Body {
     }
 
     /// Whether a line of this kind is allowed here.
-    pub fn takes(self, kind: Kind) -> bool
+    pub fn takes(self, kind: BodyKind) -> bool
         ensures { result ≡ takes self kind }
     {
         match kind {
-            Kind::Place => self.may_end(),
-            Kind::Comment => self.has_comments(),
-            Kind::Setting => matches!(self, Body::Gtid | Body::Query),
-            Kind::Frame => matches!(
+            BodyKind::Place => self.may_end(),
+            BodyKind::Comment => self.has_comments(),
+            BodyKind::Setting => matches!(self, Body::Gtid | Body::Query),
+            BodyKind::Frame => matches!(
                 self,
                 Body::Preamble | Body::Start | Body::FileEnd | Body::Closed
             ),
-            Kind::Head => matches!(self, Body::Between),
-            Kind::TableMap => matches!(self, Body::Between),
-            Kind::Column => matches!(self, Body::TableMap),
-            Kind::Gtid => matches!(self, Body::Gtid),
-            Kind::Sources => matches!(self, Body::PreviousGtids),
-            Kind::Row => matches!(self, Body::Rows | Body::RowsDue),
-            Kind::Extra => matches!(self, Body::Rows | Body::RowsDue),
-            Kind::Statement => matches!(self, Body::Query),
-            Kind::Ended => matches!(self, Body::Statement),
-            Kind::Committed => matches!(self, Body::Xid),
-            Kind::Automatic => self.may_end(),
-            Kind::Closed => matches!(self, Body::FileEnd),
+            BodyKind::Head => matches!(self, Body::Between),
+            BodyKind::TableMap => matches!(self, Body::Between),
+            BodyKind::Column => matches!(self, Body::TableMap),
+            BodyKind::Gtid => matches!(self, Body::Gtid),
+            BodyKind::Sources => matches!(self, Body::PreviousGtids),
+            BodyKind::Row => matches!(self, Body::Rows | Body::RowsDue),
+            BodyKind::Extra => matches!(self, Body::Rows | Body::RowsDue),
+            BodyKind::Statement => matches!(self, Body::Query),
+            BodyKind::Ended => matches!(self, Body::Statement),
+            BodyKind::Committed => matches!(self, Body::Xid),
+            BodyKind::Automatic => self.may_end(),
+            BodyKind::Closed => matches!(self, Body::FileEnd),
         }
     }
 
@@ -191,44 +191,44 @@ impl Body {
         }
     }
 
-    /// What the line after one of this kind is a part of, where that is no head.
-    fn behind(self, kind: Kind) -> Body
+    /// What the line after one of this kind is a part of, if that is no head.
+    fn behind(self, kind: BodyKind) -> Body
         ensures { result ≡ behind self kind }
     {
         match kind {
-            Kind::Place => Body::Between,
-            Kind::TableMap => Body::TableMap,
-            Kind::Statement => Body::Statement,
-            Kind::Ended => Body::Done,
-            Kind::Committed => Body::Done,
-            Kind::Automatic => Body::FileEnd,
-            Kind::Closed => Body::Closed,
-            Kind::Row => self.row_behind(),
-            Kind::Comment
-            | Kind::Setting
-            | Kind::Frame
-            | Kind::Head
-            | Kind::Column
-            | Kind::Gtid
-            | Kind::Sources
-            | Kind::Extra => self,
+            BodyKind::Place => Body::Between,
+            BodyKind::TableMap => Body::TableMap,
+            BodyKind::Statement => Body::Statement,
+            BodyKind::Ended => Body::Done,
+            BodyKind::Committed => Body::Done,
+            BodyKind::Automatic => Body::FileEnd,
+            BodyKind::Closed => Body::Closed,
+            BodyKind::Row => self.row_behind(),
+            BodyKind::Comment
+            | BodyKind::Setting
+            | BodyKind::Frame
+            | BodyKind::Head
+            | BodyKind::Column
+            | BodyKind::Gtid
+            | BodyKind::Sources
+            | BodyKind::Extra => self,
         }
     }
 }
 
 /// What the line after one is a part of.
-pub fn next_body(body: Body, line: &Line<'_>) -> Body
+pub fn next_body(body: Body, line: &LogLine<'_>) -> Body
     ensures { result ≡ next_body body (content_of line.now) }
 {
     let kind = kind_of(line);
     match line {
-        Line::Head(event) => body_of(*event),
-        Line::Mark(_)
-        | Line::TableMap(_, _)
-        | Line::Column(_)
-        | Line::Gtid(_)
-        | Line::Sources(_, _)
-        | Line::Row(_, _, _)
-        | Line::Value(_, _) => body.behind(kind),
+        LogLine::Head(event) => body_of(*event),
+        LogLine::Mark(_)
+        | LogLine::TableMap(_, _)
+        | LogLine::Column(_)
+        | LogLine::Gtid(_)
+        | LogLine::Sources(_, _)
+        | LogLine::Row(_, _, _)
+        | LogLine::Value(_, _) => body.behind(kind),
     }
 }

@@ -16,7 +16,8 @@ use crate::tables::{Mapped, Tables, name_of};
 use crate::unread::{refusal_at, refusal_of};
 use crate::varied::{Varied, VariedColumns};
 use binlog_text::{
-    Column, ColumnType, Event, Line, Mark, Operation, compares_bytes, parse_type, read_line,
+    Column, ColumnType, LogEvent, LogLine, Mark, RowOperation, compares_bytes, parse_type,
+    read_line,
 };
 use gtid_set::{GtidSet, SetFault};
 use gtid_text::{Gtid, SourceId};
@@ -28,7 +29,7 @@ use std::mem;
 
 /// How much of a transaction has come.
 #[derive(Clone, Copy, Debug, PartialEq, Eq)]
-pub enum Stage {
+pub enum LogStage {
     /// None is open.
     Idle,
     /// Its GTID has come.
@@ -43,13 +44,13 @@ pub enum File {
     /// No previous set has come.
     Unread,
     First,
-    /// One behind a file whose set or GTIDs have come.
+    /// One after a file whose set or GTIDs have come.
     Later,
 }
 
 /// How much of a row has come.
 #[derive(Clone, Copy, Debug, PartialEq, Eq)]
-pub enum Part {
+pub enum RowPart {
     Head,
     /// Values of the row before the change.
     Before,
@@ -72,9 +73,9 @@ pub struct Log {
 
 /// The entries of a binary log, as far as its lines have come.
 #[derive(Drop)]
-pub struct Draft {
+pub struct LogDraft {
     body: Body,
-    stage: Stage,
+    stage: LogStage,
     /// Of the transaction that is open, or was the last one.
     gtid: Gtid,
     /// No GTID has come.
@@ -96,8 +97,8 @@ pub struct Draft {
     tables: Tables,
     /// The table of the row that is open.
     row: Option<Name>,
-    operation: Operation,
-    part: Part,
+    operation: RowOperation,
+    part: RowPart,
     before: Vec<Value>,
     after: Vec<Value>,
     /// Of the transaction that is open.
@@ -135,7 +136,7 @@ fn has_come(alloc: Global, file: File, come: &GtidSet, gtids: &GtidSet) -> Resul
     has_all(alloc, come, gtids)
 }
 
-impl Draft {
+impl LogDraft {
     ghost use Rattle.std.specs.Prelude.{[], None, Ok, Err, OnOk, IfErr, true, false, if◌then◌else◌};
     ghost use Rattle.std.specs.FinSet as set;
     ghost use Rattle.gtid_set.specs.Full.{IsFaultOf};
@@ -147,12 +148,12 @@ impl Draft {
 
     /// Before the first line. What comes before the log is in the opening set.
     #[tactic(auto, using(journal::proofs::EntryLemmas::no_numbers), unfolding(gtid_set::specs::Sets::greatest))]
-    pub fn start(alloc: Global, opening: GtidSet) -> Draft
+    pub fn start(alloc: Global, opening: GtidSet) -> LogDraft
         ensures { standing result ≡ start opening }
     {
-        Draft {
+        LogDraft {
             body: Body::Preamble,
-            stage: Stage::Idle,
+            stage: LogStage::Idle,
             gtid: Gtid {
                 source: SourceId::from_bits(0),
                 number: 1,
@@ -167,8 +168,8 @@ impl Draft {
             mapping: None,
             tables: Tables::new(alloc),
             row: None,
-            operation: Operation::Insert,
-            part: Part::Head,
+            operation: RowOperation::Insert,
+            part: RowPart::Head,
             before: Vec::new(alloc),
             after: Vec::new(alloc),
             changes: Vec::new(alloc),
@@ -177,7 +178,7 @@ impl Draft {
         }
     }
 
-    /// The row that is open joins the changes, where it is whole.
+    /// Adds the row that is open to the changes, if it is whole.
     #[tactic(auto, unfolding(crate::specs::Machine::finish_row))]
     fn finish(&mut self, alloc: Global) -> Result<(), EntryFault>
         ensures { TakesOrMemory result (finish_row (standing self.old)) (standing self.new) }
@@ -211,7 +212,7 @@ impl Draft {
         if self.row.is_none() || !before_due(self.operation, self.part) {
             return Err(EntryFault::Refused(EntryRefusal::Columns));
         }
-        self.part = Part::Before;
+        self.part = RowPart::Before;
         Ok(())
     }
 
@@ -222,11 +223,11 @@ impl Draft {
         if self.row.is_none() || !after_due(self.operation, self.part) {
             return Err(EntryFault::Refused(EntryRefusal::Columns));
         }
-        self.part = Part::After;
+        self.part = RowPart::After;
         Ok(())
     }
 
-    /// The value of the next column of an image that has so many.
+    /// The value of the next column of an image that has this many.
     fn next_value(
         &self,
         alloc: Global,
@@ -247,13 +248,13 @@ impl Draft {
         ensures { TakesOrMemory result (value_line (standing self.old) n text.now) (standing self.new) }
     {
         match self.part {
-            Part::Head => Err(EntryFault::Refused(EntryRefusal::Columns)),
-            Part::Before => {
+            RowPart::Head => Err(EntryFault::Refused(EntryRefusal::Columns)),
+            RowPart::Before => {
                 let value = self.next_value(alloc, self.before.len(), n, text)?;
                 self.before.push(value)?;
                 Ok(())
             }
-            Part::After => {
+            RowPart::After => {
                 let value = self.next_value(alloc, self.after.len(), n, text)?;
                 self.after.push(value)?;
                 Ok(())
@@ -281,7 +282,7 @@ impl Draft {
             txn: Transaction { changes },
         };
         self.entries.push(entry)?;
-        self.stage = Stage::Idle;
+        self.stage = LogStage::Idle;
         Ok(())
     }
 
@@ -289,7 +290,7 @@ impl Draft {
     fn commit_line(&mut self, alloc: Global) -> Result<(), EntryFault>
         ensures { TakesOrMemory result (commit_line (standing self.old)) (standing self.new) }
     {
-        if self.is_open || self.stage != Stage::Begun {
+        if self.is_open || self.stage != LogStage::Begun {
             return Err(EntryFault::Refused(EntryRefusal::Transaction));
         }
         let changes = mem::replace(&mut self.changes, Vec::new(alloc));
@@ -302,7 +303,7 @@ impl Draft {
     fn flush_line(&mut self, alloc: Global) -> Result<(), EntryFault>
         ensures { TakesOrMemory result (flush_line (standing self.old)) (standing self.new) }
     {
-        if self.stage != Stage::Named {
+        if self.stage != LogStage::Named {
             return Err(EntryFault::Refused(EntryRefusal::Transaction));
         }
         self.end_entry(Changes::new(Vec::new(alloc))?)?;
@@ -313,10 +314,10 @@ impl Draft {
     fn begin_line(&mut self) -> Result<(), EntryFault>
         ensures { Takes result (begin_line (standing self.old)) (standing self.new) }
     {
-        if self.stage != Stage::Named {
+        if self.stage != LogStage::Named {
             return Err(EntryFault::Refused(EntryRefusal::Transaction));
         }
-        self.stage = Stage::Begun;
+        self.stage = LogStage::Begun;
         Ok(())
     }
 
@@ -324,7 +325,7 @@ impl Draft {
     fn gtid_line(&mut self, alloc: Global, word: &[u8]) -> Result<(), EntryFault>
         ensures { TakesOr (IsGtidFault (standing self.old) word.now) result (gtid_line (standing self.old) word.now) (standing self.new) }
     {
-        if self.stage != Stage::Idle {
+        if self.stage != LogStage::Idle {
             return Err(EntryFault::Refused(EntryRefusal::Gtid));
         }
         let Some(gtid) = gtid_word(alloc, word)? else {
@@ -334,7 +335,7 @@ impl Draft {
         self.gtid = gtid;
         self.is_fresh = false;
         self.file = File::Later;
-        self.stage = Stage::Named;
+        self.stage = LogStage::Named;
         Ok(())
     }
 
@@ -389,29 +390,29 @@ impl Draft {
     }
 
     #[tactic(auto, unfolding(crate::specs::Machine::head_line))]
-    fn head_line(&mut self, event: Event) -> Result<(), EntryFault>
+    fn head_line(&mut self, event: LogEvent) -> Result<(), EntryFault>
         ensures { Takes result (head_line (standing self.old) event) (standing self.new) }
     {
         match event {
-            Event::Rows(_, ends) => {
-                if self.stage != Stage::Begun {
+            LogEvent::Rows(_, ends) => {
+                if self.stage != LogStage::Begun {
                     return Err(EntryFault::Refused(EntryRefusal::Transaction));
                 }
                 self.is_over = true;
                 self.is_open = !ends;
                 Ok(())
             }
-            Event::PreviousGtids => {
+            LogEvent::PreviousGtids => {
                 self.file = self.file.next();
                 Ok(())
             }
-            Event::Start
-            | Event::Gtid
-            | Event::Query
-            | Event::Xid
-            | Event::Payload
-            | Event::Rotate
-            | Event::Stop => Ok(()),
+            LogEvent::Start
+            | LogEvent::Gtid
+            | LogEvent::Query
+            | LogEvent::Xid
+            | LogEvent::Payload
+            | LogEvent::Rotate
+            | LogEvent::Stop => Ok(()),
         }
     }
 
@@ -431,7 +432,7 @@ impl Draft {
     fn begin_row(
         &mut self,
         alloc: Global,
-        operation: Operation,
+        operation: RowOperation,
         database: &[u8],
         table: &[u8],
     ) -> Result<(), EntryFault>
@@ -445,7 +446,7 @@ impl Draft {
         };
         self.row = Some(name);
         self.operation = operation;
-        self.part = Part::Head;
+        self.part = RowPart::Head;
         Ok(())
     }
 
@@ -453,7 +454,7 @@ impl Draft {
     fn row_line(
         &mut self,
         alloc: Global,
-        operation: Operation,
+        operation: RowOperation,
         database: &[u8],
         table: &[u8],
     ) -> Result<(), EntryFault>
@@ -489,7 +490,7 @@ impl Draft {
     fn table_line(&mut self, alloc: Global, database: &[u8], table: &[u8]) -> Result<(), EntryFault>
         ensures { TakesOrMemory result (table_line (standing self.old) database.now table.now) (standing self.new) }
     {
-        if self.stage != Stage::Begun {
+        if self.stage != LogStage::Begun {
             return Err(EntryFault::Refused(EntryRefusal::Transaction));
         }
         if !may_be_database(database, &self.database) {
@@ -514,7 +515,7 @@ impl Draft {
         }
     }
 
-    /// Keeps the next column of the table that is mapped, where the server compares its values otherwise than their bytes.
+    /// Records the next column of the mapped table, unless the server compares its values by their bytes.
     fn note(&mut self, text: &[u8]) -> Result<(), AllocError>
         ensures { OnOk result (standing self.new ≡ note_varied (standing self.old) text.now) }
     {
@@ -540,7 +541,7 @@ impl Draft {
     }
 
     /// Whether the stage is this one.
-    fn expect_stage(&self, stage: Stage) -> Result<(), EntryFault>
+    fn expect_stage(&self, stage: LogStage) -> Result<(), EntryFault>
         ensures { Takes result (if same_stage (standing self.now).stage stage then Ok (standing self.now) else Err refusals.Transaction) (standing self.now) }
     {
         if self.stage == stage {
@@ -560,33 +561,33 @@ impl Draft {
             Mark::Begin => self.begin_line(),
             Mark::Commit | Mark::Committed => self.commit_line(alloc),
             Mark::Flush => self.flush_line(alloc),
-            Mark::Savepoint => self.expect_stage(Stage::Begun),
-            Mark::Closed => self.expect_stage(Stage::Idle),
+            Mark::Savepoint => self.expect_stage(LogStage::Begun),
+            Mark::Closed => self.expect_stage(LogStage::Idle),
             Mark::Ended | Mark::Empty | Mark::Comment | Mark::Setting | Mark::Frame | Mark::Extra =>
                 Ok(()),
         }
     }
 
     /// Takes the content of a line.
-    fn take_content(&mut self, alloc: Global, line: &Line<'_>) -> Result<(), EntryFault>
+    fn take_content(&mut self, alloc: Global, line: &LogLine<'_>) -> Result<(), EntryFault>
         ensures { TakesOr (IsContentFault (standing self.old) (content_of line.now)) result (take_content (standing self.old) (content_of line.now)) (standing self.new) }
     {
         match line {
-            Line::Mark(mark) => self.mark_line(alloc, *mark),
-            Line::Head(event) => self.head_line(*event),
-            Line::TableMap(database, table) => self.table_line(alloc, database, table),
-            Line::Column(column) => self.column_line(column),
-            Line::Gtid(gtid) => self.gtid_line(alloc, gtid),
-            Line::Sources(sources, _) => self.sources_line(alloc, sources),
-            Line::Row(operation, database, table) => {
+            LogLine::Mark(mark) => self.mark_line(alloc, *mark),
+            LogLine::Head(event) => self.head_line(*event),
+            LogLine::TableMap(database, table) => self.table_line(alloc, database, table),
+            LogLine::Column(column) => self.column_line(column),
+            LogLine::Gtid(gtid) => self.gtid_line(alloc, gtid),
+            LogLine::Sources(sources, _) => self.sources_line(alloc, sources),
+            LogLine::Row(operation, database, table) => {
                 self.row_line(alloc, *operation, database, table)
             }
-            Line::Value(n, text) => self.value_line(alloc, *n, text),
+            LogLine::Value(n, text) => self.value_line(alloc, *n, text),
         }
     }
 
     #[tactic(auto, unfolding(crate::specs::Machine::step))]
-    fn step(&mut self, alloc: Global, line: &Line<'_>) -> Result<(), EntryFault>
+    fn step(&mut self, alloc: Global, line: &LogLine<'_>) -> Result<(), EntryFault>
         ensures { TakesOr (IsStepFault (standing self.old) (content_of line.now)) result (step (standing self.old) (content_of line.now)) (standing self.new) }
     {
         if !self.body.takes(kind_of(line)) {

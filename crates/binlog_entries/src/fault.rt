@@ -16,7 +16,7 @@ pub enum EntryRefusal {
     Statement,
     /// A distributed transaction.
     Xa,
-    /// A GTID that is none of ours, or in the midst of a transaction; or none at all.
+    /// A GTID that does not parse as one here, an anonymous or missing GTID, or a GTID inside a transaction.
     Gtid,
     /// A transaction's line outside of one, a second beginning, or an end within a statement of rows.
     Transaction,
@@ -30,7 +30,7 @@ pub enum EntryRefusal {
     Value,
     /// The text of another server's logs.
     Mariadb,
-    /// A rows event that ends its statement, and no row behind its head. (`mysqlbinlog` without `-v` prints none.)
+    /// A rows event that ends its statement, and no row after its head. (`mysqlbinlog` without `-v` prints none.)
     Rows,
     /// A previous set of a later file with GTIDs that are neither in the opening set nor in the log before it.
     Gap,
@@ -60,7 +60,7 @@ impl EntryRefusal {
         }
     }
 
-    /// The line that the refusal names, where this one shows it: the one before it, where rows lack.
+    /// The line that the refusal names, if this one shows it: the one before it, if rows lack.
     pub fn named_line(self, line: u64) -> u64
         ensures { result ≡ named_line self line }
     {
@@ -74,7 +74,7 @@ impl EntryRefusal {
 /// Why a line is not taken.
 #[derive(Clone, Copy, Debug, PartialEq, Eq)]
 pub enum EntryFault {
-    /// Memory was refused, or a set is full.
+    /// Out of memory, or a set is full.
     Set(SetFault),
     /// The line is refused.
     Refused(EntryRefusal),
@@ -107,7 +107,7 @@ impl<T: Drop> From<AllocFailed<T>> for EntryFault {
 /// Why a text is not read. Lines count from 1.
 #[derive(Clone, Copy, Debug, PartialEq, Eq, Error)]
 pub enum ReadFault {
-    /// Memory was refused, or a set is full.
+    /// Out of memory, or a set is full.
     #[error("{0}")]
     Set(SetFault),
     /// The first line that is refused, and what is wrong with it.

@@ -33,7 +33,7 @@ pub fn join(alloc: Global, whole: &mut GtidSet, more: &GtidSet) -> Result<(), Se
     if add_all(whole, &spans) {
         return Ok(());
     }
-    // (where an interval is refused on the way, the whole may still have room)
+    // (if an interval is refused on the way, the whole may still have room)
     *whole = whole.union(alloc, more)?;
     Ok(())
 }

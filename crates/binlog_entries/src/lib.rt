@@ -1,6 +1,6 @@
 //! The text of MySQL's binary logs as entries: a state machine over the lines of `binlog_text`.
 //!
-//! `Reader` takes the text in pieces (`start`, `feed`, `finish`), and `read_log` is one `feed` and `finish`. Each is given the opening set:
+//! `LogReader` takes the text in pieces (`start`, `feed`, `finish`), and `read_log` is one `feed` and `finish`. Each is given the opening set:
 //! what comes before the log. A `Log` is the set that was executed before, by the first file, and the entries in order. `import_journal`
 //! writes it as a journal's text, by version 2 of the format.
 //!
@@ -9,8 +9,8 @@
 //! dropped, doubled or moved (`lines_mean_entries`), and it makes no difference where a text is cut (`cut_anywhere`). A refusal names the
 //! first line that is refused, but for rows that lack: it names the line before, which is the head of their event.
 //!
-//! Two faults of a text that looks whole are refused. `HaveRows`: mysqlbinlog prints the rows of a statement behind the head of the rows event
-//! that ends it, whatever tables and operations they are of, and without `-v` it prints none. So that head has a row behind it, and no
+//! Two faults of a text that looks whole are refused. `HaveRows`: mysqlbinlog prints the rows of a statement after the head of the rows
+//! event that ends it, whatever tables and operations they are of, and without `-v` it prints none. So that head has a row after it, and no
 //! transaction ends within a statement. `NoGap`: the previous set of each file but the first lies within the opening set, the previous set
 //! of the first file and the GTIDs that came (else a file was left out). A previous set that comes after a GTID is one of a later file.
 //!
@@ -40,13 +40,10 @@ mod unread;
 mod varied;
 
 pub use as_journal::LogFault;
-pub use draft::{Draft, Log};
+pub use draft::{Log, LogDraft};
 pub use fault::{EntryFault, EntryRefusal, ReadFault};
 pub use import::{ImportFault, ImportedJournal, import_journal};
 pub use laws::{cut_anywhere, lines_mean_entries, statements_hold_no_rows};
 pub use limits::Limit;
-pub use reader::{Reader, cut_line, read_log};
+pub use reader::{LogReader, cut_line, read_log};
 pub use varied::Varied;
-
-#[cfg(test)]
-mod tests;

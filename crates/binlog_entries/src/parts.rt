@@ -3,17 +3,17 @@ ghost use Rattle.std.specs.Prelude.{◌≡◌, length, IfOk, option_map};
 ghost use Rattle.binlog_entries.specs.Machine.{Finds, is_whole, change_of, is_database, may_be_database, before_due, after_due, parse_value};
 ghost use Rattle.binlog_entries.specs.Tables.{type_at};
 
-use crate::draft::Part;
+use crate::draft::RowPart;
 use crate::fault::{EntryFault, EntryRefusal};
 use crate::tables::Tables;
-use binlog_text::{ColumnType, Operation, read_value};
+use binlog_text::{ColumnType, RowOperation, read_value};
 use rows::{Change, Name, Row, Value};
 use std::alloc::{AllocError, Global};
 
 /// Whether a row has the parts that its operation has, with a value for each column.
 pub fn is_whole(
-    operation: Operation,
-    part: Part,
+    operation: RowOperation,
+    part: RowPart,
     before: usize,
     after: usize,
     columns: usize,
@@ -21,14 +21,14 @@ pub fn is_whole(
     ensures { result ≡ is_whole operation part before after columns }
 {
     match operation {
-        Operation::Insert => part == Part::After && after == columns,
-        Operation::Delete => part == Part::Before && before == columns,
-        Operation::Update => part == Part::After && before == columns && after == columns,
+        RowOperation::Insert => part == RowPart::After && after == columns,
+        RowOperation::Delete => part == RowPart::Before && before == columns,
+        RowOperation::Update => part == RowPart::After && before == columns && after == columns,
     }
 }
 
 pub fn change_of(
-    operation: Operation,
+    operation: RowOperation,
     table: Name,
     before: Vec<Value>,
     after: Vec<Value>,
@@ -36,15 +36,15 @@ pub fn change_of(
     ensures { IfOk result (λ change. change ≡ change_of operation table before.items after.items) }
 {
     match operation {
-        Operation::Insert => {
+        RowOperation::Insert => {
             let after = Row::new(after)?;
             Ok(Change::Insert { table, after })
         }
-        Operation::Delete => {
+        RowOperation::Delete => {
             let before = Row::new(before)?;
             Ok(Change::Delete { table, before })
         }
-        Operation::Update => {
+        RowOperation::Update => {
             let before = Row::new(before)?;
             let after = Row::new(after)?;
             Ok(Change::Update {
@@ -74,22 +74,22 @@ pub fn may_be_database(name: &[u8], database: &Option<Vec<u8>>) -> bool
     }
 }
 
-pub fn before_due(operation: Operation, part: Part) -> bool
+pub fn before_due(operation: RowOperation, part: RowPart) -> bool
     ensures { result ≡ before_due operation part }
 {
     match operation {
-        Operation::Insert => false,
-        Operation::Update | Operation::Delete => part == Part::Head,
+        RowOperation::Insert => false,
+        RowOperation::Update | RowOperation::Delete => part == RowPart::Head,
     }
 }
 
-pub fn after_due(operation: Operation, part: Part) -> bool
+pub fn after_due(operation: RowOperation, part: RowPart) -> bool
     ensures { result ≡ after_due operation part }
 {
     match operation {
-        Operation::Insert => part == Part::Head,
-        Operation::Update => part == Part::Before,
-        Operation::Delete => false,
+        RowOperation::Insert => part == RowPart::Head,
+        RowOperation::Update => part == RowPart::Before,
+        RowOperation::Delete => false,
     }
 }
 

@@ -6,7 +6,7 @@ ghost use Rattle.binlog_entries.specs.Machine.{TakesOr, judge};
 ghost use Rattle.binlog_entries.specs.Drafts.{standing};
 ghost use Rattle.binlog_entries.specs.Readers.{progress, log_seen};
 
-use crate::draft::{Draft, Log};
+use crate::draft::{Log, LogDraft};
 use crate::fault::{EntryFault, ReadFault};
 use gtid_set::GtidSet;
 use memchr::memchr;
@@ -29,8 +29,8 @@ pub fn cut_line(text: &[u8]) -> Option<(&[u8], &[u8])>
 
 /// The text of a binary log, as far as it has come.
 #[derive(Drop)]
-pub struct Reader {
-    draft: Draft,
+pub struct LogReader {
+    draft: LogDraft,
     /// How many whole lines have come.
     lines: u64,
     /// The bytes of the line that has not come whole.
@@ -38,16 +38,16 @@ pub struct Reader {
     stopped: Option<ReadFault>,
 }
 
-impl Reader {
+impl LogReader {
     ghost use Rattle.gtid_set.specs.declared.fault.SetFault.TheVariants.{Memory};
     ghost use Rattle.binlog_entries.specs.declared.fault.ReadFault.TheVariants.{Set};
 
     /// Before the first byte. What comes before the log is in the opening set.
-    pub fn start(alloc: Global, opening: GtidSet) -> Reader
+    pub fn start(alloc: Global, opening: GtidSet) -> LogReader
         ensures { progress result ≡ start opening }
     {
-        Reader {
-            draft: Draft::start(alloc, opening),
+        LogReader {
+            draft: LogDraft::start(alloc, opening),
             lines: 0,
             rest: Vec::new(alloc),
             stopped: None,
@@ -155,7 +155,7 @@ impl Reader {
         Ok(())
     }
 
-    /// What the log describes, where the last file has ended.
+    /// What the log describes, if the last file has ended.
     pub fn finish(self) -> Result<Log, ReadFault>
         ensures { Seen log_seen result ≡ closing (progress self) }
     {
@@ -169,7 +169,7 @@ impl Reader {
 fn read(alloc: Global, opening: GtidSet, text: &[u8]) -> Result<Log, ReadFault>
     ensures { Ends (IsPieceFault (start opening) text.now) (Seen log_seen result) (closing (feed_bytes (start opening) text.now)) }
 {
-    let mut reader = Reader::start(alloc, opening);
+    let mut reader = LogReader::start(alloc, opening);
     match reader.feed(alloc, text) {
         Ok(()) => reader.finish(),
         Err(fault) => Err(fault),

@@ -98,7 +98,7 @@ impl Model for Tables {
     ghost invariant = { λ t. ArePlaces t.list.items t.places };
 }
 
-/// Puts a table after the others, where there is room for it. An error leaves all as it was.
+/// Appends a table, if there is room for it. An error changes nothing.
 fn put(
     list: &mut Vec<Mapped>,
     places: &mut BTreeMap<Name, usize>,

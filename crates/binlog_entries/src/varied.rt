@@ -15,7 +15,7 @@ pub struct Varied {
     pub column: usize,
 }
 
-/// Such columns, in the order in which they came. One is looked for in as many steps as their number has binary digits.
+/// Such columns, in the order in which they came. A search takes as many steps as their number has binary digits.
 pub struct VariedColumns {
     list: Vec<Varied>,
     /// The same columns, in the order of their tables.

@@ -6,15 +6,16 @@ use Rattle.std.specs.List.{list_all}
 use Rattle.std.specs.Char.{is_ascii_digit}
 use Rattle.std.proofs.lemmas.Bool.{eqb-true, and_parts}
 use Rattle.std.proofs.lemmas.Bool.Decides.{nat_tests}
+use Rattle.lemmas.proofs.Numbers.{eqb_swap}
 use Rattle.row_images.specs.Values.{is_lower_digit}
 use Rattle.row_images.proofs.Counts.{count_again, decimal_lacks}
 use Rattle.binlog_text.specs.Tokens.{after_prefix, cut_at, lacks, last_cut, ◌>>=◌}
 use Rattle.binlog_text.specs.Lines.{Column, Content, OfMark, OfHead, OfTable, OfColumn, OfGtid, OfSources, OfRow, OfValue, IsName, table_text, operation_text, rows_text, ends_statement, event_text, HasFlags, IsStamp, column_front, column_end, named_text, IsNamed, is_source, is_source_front, comma, IsWhole, begins, is_comment, is_setting, begins_setting, ends_setting, quotes_then, is_savepoint, is_frame, is_plain, is_flush, IsMark, IsLine}
 use Rattle.binlog_text.specs.Reading.{branch, table_at, row_at, is_last_at, name_at, column, column_at, sources, sources_in, comment_line, table_map_at, content_at, line_of}
-use Rattle.binlog_text.specs.declared.lines.Operation.{Operation}
-use Rattle.binlog_text.specs.declared.lines.Operation.TheVariants as operations
-use Rattle.binlog_text.specs.declared.lines.Event.{Event}
-use Rattle.binlog_text.specs.declared.lines.Event.TheVariants as events
+use Rattle.binlog_text.specs.declared.lines.RowOperation.{RowOperation}
+use Rattle.binlog_text.specs.declared.lines.RowOperation.TheVariants as operations
+use Rattle.binlog_text.specs.declared.lines.LogEvent.{LogEvent}
+use Rattle.binlog_text.specs.declared.lines.LogEvent.TheVariants as events
 use Rattle.binlog_text.specs.declared.lines.Mark.{Mark}
 use Rattle.binlog_text.specs.declared.lines.Mark.TheVariants as marks
 use Rattle.binlog_text.proofs.TokenLaws.{cut_found, cut_again, last_found, last_again}
@@ -193,12 +194,12 @@ table_again database table rest d t =
     let second : cut_at 96 (table ++ 96 ∷ rest) ≡ Some (table, rest) = cut_again 96 table rest t in
     ap table_at (sym (regrouped database table rest)) ∙ rw (first, second) refl
 
-row_at_again : (operation : Operation) (database table : List ℕ) → IsName database → IsName table → row_at operation (table_text database table) ≡ Some (OfRow operation database table)
+row_at_again : (operation : RowOperation) (database table : List ℕ) → IsName database → IsName table → row_at operation (table_text database table) ≡ Some (OfRow operation database table)
 row_at_again operation database table d t =
     ap (row_at operation) (sym (append-nil (table_text database table)))
     ∙ rw (table_again database table [] d t) refl
 
-row_again : (operation : Operation) (database table : List ℕ) → IsName database → IsName table → line_of (codes "### " ++ (operation_text operation ++ table_text database table)) ≡ Some (OfRow operation database table)
+row_again : (operation : RowOperation) (database table : List ℕ) → IsName database → IsName table → line_of (codes "### " ++ (operation_text operation ++ table_text database table)) ≡ Some (OfRow operation database table)
 row_again operations.Insert database table d t = row_at_again operations.Insert database table d t
 row_again operations.Update database table d t = row_at_again operations.Update database table d t
 row_again operations.Delete database table d t = row_at_again operations.Delete database table d t
@@ -238,9 +239,6 @@ not_digit c d out digit = apart (eqb c d) refl
     apart false e = refl
     apart true e = let bad : true ≡ false = sym digit ∙ ap is_lower_digit (sym (eqb-true c d e)) ∙ out in absurd cc
 
-other_way : (c d : ℕ) → eqb c d ≡ false → eqb d c ≡ false
-other_way c d e = grind (arith, nat_tests)
-
 no_place : (t : Bool) (rest : Option (List ℕ)) → rest ≡ None → cond t rest None ≡ None
 no_place true rest e = e
 no_place false rest e = refl
@@ -252,8 +250,8 @@ digits_alone d e ds x y =
     let columns : after_prefix (codes "Columns(") (d ∷ e ∷ ds) ≡ None = rw (not_digit 67 d refl x) refl in
     let blanks : after_prefix (codes "        ") (d ∷ e ∷ ds) ≡ None = rw (not_digit 32 d refl x) refl in
     let comment : is_comment (d ∷ e ∷ ds) ≡ false = rw (not_digit 111 d refl x, not_digit 105 d refl x, not_digit 104 d refl x, not_digit 80 d refl x, not_digit 83 d refl x, not_digit 69 d refl x, not_digit 87 d refl x, not_digit 84 d refl x, not_digit 116 d refl x) refl in
-    let empty : bytes_eq (d ∷ e ∷ ds) (codes "[empty]") ≡ false = rw (other_way 91 d (not_digit 91 d refl x)) refl in
-    let closed : bytes_eq (d ∷ e ∷ ds) (codes "End of log file") ≡ false = rw (other_way 69 d (not_digit 69 d refl x)) refl in
+    let empty : bytes_eq (d ∷ e ∷ ds) (codes "[empty]") ≡ false = rw (eqb_swap 91 d (not_digit 91 d refl x)) refl in
+    let closed : bytes_eq (d ∷ e ∷ ds) (codes "End of log file") ≡ false = rw (eqb_swap 69 d (not_digit 69 d refl x)) refl in
     rw (place, columns, blanks, comment, empty, closed) refl
 
 -- a source begins with two digits
@@ -312,12 +310,12 @@ head_of (d ∷ ds) rest is =
     let cut : cut_at 9 (d ∷ (ds ++ 9 ∷ rest)) ≡ Some (d ∷ ds, rest) = cut_again 9 (d ∷ ds) rest is.one in
     rw (other.0, other.1, cut, is.first) refl
 
-rows_again : (operation : Operation) (rest : List ℕ) → content_at (rows_text operation ++ rest) ≡ Some (OfHead (events.Rows operation (ends_statement rest)))
+rows_again : (operation : RowOperation) (rest : List ℕ) → content_at (rows_text operation ++ rest) ≡ Some (OfHead (events.Rows operation (ends_statement rest)))
 rows_again operations.Insert rest = refl
 rows_again operations.Update rest = refl
 rows_again operations.Delete rest = refl
 
-event_again : (event : Event) (rest : List ℕ) → HasFlags event rest → content_at (event_text event ++ rest) ≡ Some (OfHead event)
+event_again : (event : LogEvent) (rest : List ℕ) → HasFlags event rest → content_at (event_text event ++ rest) ≡ Some (OfHead event)
 event_again events.Start rest flags = refl
 event_again events.PreviousGtids rest flags = refl
 event_again events.Gtid rest flags = refl

@@ -11,10 +11,10 @@ use Rattle.row_images.proofs.Counts.{count_found}
 use Rattle.binlog_text.specs.Tokens.{after_prefix, cut_at, nothing_in, last_cut, ◌>>=◌}
 use Rattle.binlog_text.specs.Lines.{Content, OfMark, OfGtid, OfSources, IsName, table_text, operation_text, rows_text, event_text, HasFlags, begins_with_digit, IsStamp, column_front, column_end, named_text, is_source, comma, IsWhole, begins, is_comment, is_setting, is_savepoint, is_frame, is_flush, IsLine}
 use Rattle.binlog_text.specs.Reading.{branch, table_at, row_at, assignment_at, row_line, is_last_at, name_at, column, column_at, sources, sources_in, comment_line, table_map_at, rows_event, other_event, event_of, content_at, head_line, gtid_at, plain_line, line_of}
-use Rattle.binlog_text.specs.declared.lines.Operation.{Operation}
-use Rattle.binlog_text.specs.declared.lines.Operation.TheVariants as operations
-use Rattle.binlog_text.specs.declared.lines.Event.{Event}
-use Rattle.binlog_text.specs.declared.lines.Event.TheVariants as events
+use Rattle.binlog_text.specs.declared.lines.RowOperation.{RowOperation}
+use Rattle.binlog_text.specs.declared.lines.RowOperation.TheVariants as operations
+use Rattle.binlog_text.specs.declared.lines.LogEvent.{LogEvent}
+use Rattle.binlog_text.specs.declared.lines.LogEvent.TheVariants as events
 use Rattle.binlog_text.specs.declared.lines.Mark.TheVariants as marks
 use Rattle.binlog_text.proofs.TokenLaws.{bind_some, after_found, cut_found, nothing_found, last_found, last_again}
 
@@ -66,7 +66,7 @@ table_found text x e =
 
 -- ---- rows
 
-row_found : (operation : Operation) (text : List ℕ) (l : Content) → row_at operation text ≡ Some l → IsLine l (codes "### " ++ (operation_text operation ++ text))
+row_found : (operation : RowOperation) (text : List ℕ) (l : Content) → row_at operation text ≡ Some l → IsLine l (codes "### " ++ (operation_text operation ++ text))
 row_found operation text l e =
     let a = bind_some (table_at text) _ l e in
     let table = table_found text a.0 a.1 in
@@ -215,18 +215,18 @@ mapped_found stamp text l is e =
     (stamp, c.0, ap (λ (xs : List ℕ). 35 ∷ (stamp ++ 9 ∷ (codes "Table_map: " ++ xs))) whole, is, table.database, table.table, count.1)
 
 -- the prefix of an event's text that was found
-abbrev pub Tells : List ℕ → Event → Type 0
+abbrev pub Tells : List ℕ → LogEvent → Type 0
 Tells text event = (rest : List ℕ) × (text ≡ event_text event ++ rest) × HasFlags event rest
 
-tells : (event found : Event) (text : List ℕ) → ((rest : List ℕ) → HasFlags event rest) → begins (event_text event) text ≡ true → event ≡ found → Tells text found
+tells : (event found : LogEvent) (text : List ℕ) → ((rest : List ℕ) → HasFlags event rest) → begins (event_text event) text ≡ true → event ≡ found → Tells text found
 tells event found text flags h e =
     let front = begun (event_text event) text (after_prefix (event_text event) text) refl h in
     subst (Tells text) e (front.0, front.1, flags front.0)
 
-rows_found : (operation : Operation) (rest text : List ℕ) (event : Event) → text ≡ rows_text operation ++ rest → rows_event operation rest ≡ Some event → Tells text event
+rows_found : (operation : RowOperation) (rest text : List ℕ) (event : LogEvent) → text ≡ rows_text operation ++ rest → rows_event operation rest ≡ Some event → Tells text event
 rows_found operation rest text event parts e = subst (Tells text) (same_Some _ _ e) (rest, parts, refl)
 
-other_found : (text : List ℕ) (event : Event) → other_event text ≡ Some event → Tells text event
+other_found : (text : List ℕ) (event : LogEvent) → other_event text ≡ Some event → Tells text event
 other_found text event e = elim (chosen (begins (event_text events.Xid) text) (Some events.Xid) _ (Some event) e) [
   | inl p ↦ tells events.Xid event text (λ rest. tt) p.0 (same_Some _ _ p.1)
   | inr p ↦ elim (chosen (begins (event_text events.Payload) text) (Some events.Payload) _ (Some event) p.1) [
@@ -248,11 +248,11 @@ other_found text event e = elim (chosen (begins (event_text events.Xid) text) (S
 ]
 
 -- what is read after a prefix, or else
-event_branch : (front text : List ℕ) (o : Option (List ℕ)) (f : List ℕ → Option Event) (other : Option Event) (event : Event) → after_prefix front text ≡ o → branch o f other ≡ Some event → ((rest : List ℕ) × (text ≡ front ++ rest) × (f rest ≡ Some event)) ⊎ (other ≡ Some event)
+event_branch : (front text : List ℕ) (o : Option (List ℕ)) (f : List ℕ → Option LogEvent) (other : Option LogEvent) (event : LogEvent) → after_prefix front text ≡ o → branch o f other ≡ Some event → ((rest : List ℕ) × (text ≡ front ++ rest) × (f rest ≡ Some event)) ⊎ (other ≡ Some event)
 event_branch front text None f other event e h = inr h
 event_branch front text (Some rest) f other event e h = inl (rest, after_found front text rest e, h)
 
-event_found : (text : List ℕ) (event : Event) → event_of text ≡ Some event → Tells text event
+event_found : (text : List ℕ) (event : LogEvent) → event_of text ≡ Some event → Tells text event
 event_found text event e = elim (chosen (begins (event_text events.Query) text) (Some events.Query) _ (Some event) e) [
   | inl p ↦ tells events.Query event text (λ rest. tt) p.0 (same_Some _ _ p.1)
   | inr p ↦ elim (chosen (begins (event_text events.Gtid) text) (Some events.Gtid) _ (Some event) p.1) [

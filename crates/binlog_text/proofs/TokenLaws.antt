@@ -3,6 +3,7 @@ use Rattle.std.proofs.Common.{◌≡◌, ℕ, Bool, true, false, cond, eqb, not,
 use Rattle.std.specs.Prelude.{option_map, ◌&&◌, MatchOption, ◌≢◌}
 use Rattle.std.proofs.lemmas.Bool.{eqb-true}
 use Rattle.std.proofs.lemmas.Option.{same_Some}
+use Rattle.lemmas.proofs.Tests.{not_and_parts}
 use Rattle.gtid_text.proofs.Turns.{chosen}
 use Rattle.binlog_text.specs.Tokens.{after_prefix, before, behind, cut_at, lacks, nothing_in, last_behind, last_cut, ◌>>=◌}
 
@@ -53,18 +54,14 @@ pub cut_found : (c : ℕ) (text : List ℕ) (x : List ℕ × List ℕ) → cut_a
 cut_found c text x e = let pair = paired (before c text) (behind c text) x e in
     subst (λ (y : List ℕ × List ℕ). Cuts c text y.0 y.1) pair.2 (behind_found c text pair.0 pair.1)
 
-lacks_first : (t : Bool) (u : Bool) → (not t && u) ≡ true → (t ≡ false) × (u ≡ true)
-lacks_first true u e = absurd cc
-lacks_first false u e = (refl, e)
-
 before_again : (c : ℕ) (front rest : List ℕ) → lacks c front ≡ true → before c (front ++ c ∷ rest) ≡ front
 before_again c [] rest free = rw (eq-eqb c c refl) refl
-before_again c (b ∷ bs) rest free = let first = lacks_first (eqb b c) (lacks c bs) free in
+before_again c (b ∷ bs) rest free = let first = not_and_parts (eqb b c) (lacks c bs) free in
     rw first.0 (ap (λ (xs : List ℕ). b ∷ xs) (before_again c bs rest first.1))
 
 behind_again : (c : ℕ) (front rest : List ℕ) → lacks c front ≡ true → behind c (front ++ c ∷ rest) ≡ Some rest
 behind_again c [] rest free = rw (eq-eqb c c refl) refl
-behind_again c (b ∷ bs) rest free = let first = lacks_first (eqb b c) (lacks c bs) free in
+behind_again c (b ∷ bs) rest free = let first = not_and_parts (eqb b c) (lacks c bs) free in
     rw first.0 (behind_again c bs rest first.1)
 
 pub cut_again : (c : ℕ) (front rest : List ℕ) → lacks c front ≡ true → cut_at c (front ++ c ∷ rest) ≡ Some (front, rest)

@@ -7,6 +7,8 @@ use Rattle.std.proofs.lemmas.Slice.Eq.{bytes_eq-Decides}
 use Rattle.std.specs.Str.{bytes_eq}
 use Rattle.std.proofs.lemmas.Option.{same_Some}
 use Rattle.std.specs.List.{list_all}
+use Rattle.lemmas.proofs.Options.{map_some as mapped}
+use Rattle.lemmas.proofs.Numbers.{below_test, lt_of_test, lt_false, ge_of_test}
 use Rattle.gtid_text.proofs.Turns.{chosen}
 use Rattle.row_images.specs.Words.{count_of}
 use Rattle.row_images.proofs.Counts.{count_found, count_again, decimal_lacks, lacks-parts}
@@ -74,18 +76,6 @@ agreed h a b e = grind (arith, nat_tests)
 agrees : (h a b : ℕ) → 1 ≤ a → a ≤ h → a + b ≡ h + h → (nat_le 1 a && nat_le a h && (a + b == h + h)) ≡ true
 agrees h a b x y z = grind (arith, nat_tests)
 
-lt_true : (a b : ℕ) → a < b → nat_lt a b ≡ true
-lt_true a b h = grind (arith, nat_tests)
-
-true_lt : (a b : ℕ) → nat_lt a b ≡ true → a < b
-true_lt a b h = grind (arith, nat_tests)
-
-ge_false : (a b : ℕ) → b ≤ a → nat_lt a b ≡ false
-ge_false a b h = grind (arith, nat_tests)
-
-false_ge : (a b : ℕ) → nat_lt a b ≡ false → b ≤ a
-false_ge a b h = grind (arith, nat_tests)
-
 -- a count is no text that begins with a minus
 not_negative : (b : ℕ) (bs : List ℕ) (n : ℕ) → count_of (b ∷ bs) ≡ Some n → eqb b 45 ≡ false
 not_negative b bs n e = let found = count_found (b ∷ bs) n e in
@@ -94,12 +84,12 @@ not_negative b bs n e = let found = count_found (b ∷ bs) n e in
 below_found : (limit : ℕ) (text : List ℕ) (o : Option ℕ) (z : ℤ) → count_of text ≡ o → below limit o ≡ Some z → (n : ℕ) × (z ≡ pos n) × (n < limit) × (text ≡ decimal n)
 below_found limit text None z e f = absurd cc
 below_found limit text (Some n) z e f = elim (chosen (nat_lt n limit) (Some (pos n)) None (Some z) f) [
-  | inl p ↦ (n, sym (same_Some _ _ p.1), true_lt n limit p.0, (count_found text n e).0)
+  | inl p ↦ (n, sym (same_Some _ _ p.1), lt_of_test n limit p.0, (count_found text n e).0)
   | inr p ↦ absurd cc
 ]
 
 below_again : (limit n : ℕ) → n < limit → limit ≤ 2 ^ 63 → below limit (count_of (decimal n)) ≡ Some (pos n)
-below_again limit n lt small = rw (count_again n (omega arith), lt_true n limit lt) refl
+below_again limit n lt small = rw (count_again n (omega arith), below_test n limit lt) refl
 
 negative_is : (t : IntegerType) (bs : List ℕ) (o : Option (ℕ × ℕ)) (z : ℤ) → readings_at bs ≡ o → negative t o ≡ Some z → signed_shown t z ≡ Some (45 ∷ bs)
 negative_is t bs None z e f = absurd cc
@@ -111,7 +101,7 @@ negative_is t bs (Some r) z e f = elim (chosen (agree t r.0 r.1) (Some (negsuc (
       let back : r.0 - 1 + 1 ≡ r.0 = omega (arith, fit.0) in
       let rest : range_of t - r.0 ≡ r.1 = omega (arith, fit.2) in
       subst (λ (y : ℤ). signed_shown t y ≡ Some (45 ∷ bs)) (same_Some _ _ p.1)
-      (rw (lt_true (r.0 - 1) (half_of t) (omega (arith, fit.0, fit.1)), back, rest) (ap (λ (xs : List ℕ). Some (45 ∷ xs)) (sym read.text)))
+      (rw (below_test (r.0 - 1) (half_of t) (omega (arith, fit.0, fit.1)), back, rest) (ap (λ (xs : List ℕ). Some (45 ∷ xs)) (sym read.text)))
 ]
 
 signed_found : (t : IntegerType) (text : List ℕ) (z : ℤ) → signed_value t text ≡ Some z → signed_shown t z ≡ Some text
@@ -120,30 +110,30 @@ signed_found t (b ∷ bs) z e = elim (chosen (eqb b 45) (negative t (readings_at
   | inl p ↦ negative_is t bs (readings_at bs) z refl p.1 ∙ ap (λ (c : ℕ). Some (c ∷ bs)) (sym (eqb-true b 45 p.0))
   | inr p ↦
       let n = below_found (half_of t) (b ∷ bs) (count_of (b ∷ bs)) z refl p.1 in
-      subst (λ (y : ℤ). signed_shown t y ≡ Some (b ∷ bs)) (sym n.1) (rw (lt_true n.0 (half_of t) n.2) (ap Some (sym n.3)))
+      subst (λ (y : ℤ). signed_shown t y ≡ Some (b ∷ bs)) (sym n.1) (rw (below_test n.0 (half_of t) n.2) (ap Some (sym n.3)))
 ]
 
 -- a number from 0 on is read, with a sign or without
 plain_signed : (t : IntegerType) (text : List ℕ) (n : ℕ) → count_of text ≡ Some n → n < half_of t → signed_value t text ≡ Some (pos n)
 plain_signed t [] n e lt = absurd cc
-plain_signed t (b ∷ bs) n e lt = rw (not_negative b bs n e, e, lt_true n (half_of t) lt) refl
+plain_signed t (b ∷ bs) n e lt = rw (not_negative b bs n e, e, below_test n (half_of t) lt) refl
 
 plain_unsigned : (t : IntegerType) (text : List ℕ) (n : ℕ) → count_of text ≡ Some n → n < half_of t → unsigned_value t text ≡ Some (pos n)
 plain_unsigned t [] n e lt = absurd cc
-plain_unsigned t (b ∷ bs) n e lt = rw (not_negative b bs n e, e, lt_true n (half_of t) lt) refl
+plain_unsigned t (b ∷ bs) n e lt = rw (not_negative b bs n e, e, below_test n (half_of t) lt) refl
 
 signed_again : (t : IntegerType) (z : ℤ) (text : List ℕ) → signed_shown t z ≡ Some text → signed_value t text ≡ Some z
 signed_again t (pos n) text e = elim (chosen (nat_lt n (half_of t)) (Some (decimal n)) None (Some text) e) [
   | inr p ↦ absurd cc
   | inl p ↦
-      let lt = true_lt n (half_of t) p.0 in
+      let lt = lt_of_test n (half_of t) p.0 in
       subst (λ (xs : List ℕ). signed_value t xs ≡ Some (pos n)) (same_Some _ _ p.1)
       (plain_signed t (decimal n) n (count_again n (omega (arith, lt, half_fits t))) lt)
 ]
 signed_again t (negsuc n) text e = elim (chosen (nat_lt n (half_of t)) (Some (negative_text (n + 1) (range_of t - (n + 1)))) None (Some text) e) [
   | inr p ↦ absurd cc
   | inl p ↦
-      let lt = true_lt n (half_of t) p.0 in
+      let lt = lt_of_test n (half_of t) p.0 in
       let small = half_fits t in
       let read : readings_at (decimal (n + 1) ++ 32 ∷ 40 ∷ (decimal (range_of t - (n + 1)) ++ 41 ∷ [])) ≡ Some (n + 1, range_of t - (n + 1)) = readings_again (n + 1) (range_of t - (n + 1)) (omega (arith, lt, small)) (omega (arith, lt, small)) in
       let fit : agree t (n + 1) (range_of t - (n + 1)) ≡ true = agrees (half_of t) (n + 1) (range_of t - (n + 1)) (omega arith) (omega (arith, lt)) (omega (arith, lt)) in
@@ -161,8 +151,8 @@ large_is t bs (Some r) z e f = elim (chosen (agree t r.0 r.1 && nat_lt r.1 (2 ^ 
       let fit = agreed (half_of t) r.0 r.1 parts.0 in
       let read = readings_found bs r e in
       let rest : range_of t - r.1 ≡ r.0 = omega (arith, fit.2) in
-      let past : nat_lt r.1 (half_of t) ≡ false = ge_false r.1 (half_of t) (omega (arith, fit.1, fit.2)) in
-      let within : nat_lt r.1 (range_of t) ≡ true = lt_true r.1 (range_of t) (omega (arith, fit.0, fit.2)) in
+      let past : nat_lt r.1 (half_of t) ≡ false = lt_false r.1 (half_of t) (omega (arith, fit.1, fit.2)) in
+      let within : nat_lt r.1 (range_of t) ≡ true = below_test r.1 (range_of t) (omega (arith, fit.0, fit.2)) in
       subst (λ (y : ℤ). unsigned_shown t y ≡ Some (45 ∷ bs)) (same_Some _ _ p.1)
       (rw (past, within, parts.1, rest) (ap (λ (xs : List ℕ). Some (45 ∷ xs)) (sym read.text)))
 ]
@@ -173,23 +163,23 @@ unsigned_found t (b ∷ bs) z e = elim (chosen (eqb b 45) (large t (readings_at 
   | inl p ↦ large_is t bs (readings_at bs) z refl p.1 ∙ ap (λ (c : ℕ). Some (c ∷ bs)) (sym (eqb-true b 45 p.0))
   | inr p ↦
       let n = below_found (half_of t) (b ∷ bs) (count_of (b ∷ bs)) z refl p.1 in
-      subst (λ (y : ℤ). unsigned_shown t y ≡ Some (b ∷ bs)) (sym n.1) (rw (lt_true n.0 (half_of t) n.2) (ap Some (sym n.3)))
+      subst (λ (y : ℤ). unsigned_shown t y ≡ Some (b ∷ bs)) (sym n.1) (rw (below_test n.0 (half_of t) n.2) (ap Some (sym n.3)))
 ]
 
 unsigned_again : (t : IntegerType) (z : ℤ) (text : List ℕ) → unsigned_shown t z ≡ Some text → unsigned_value t text ≡ Some z
 unsigned_again t (negsuc n) text e = absurd cc
 unsigned_again t (pos n) text e = elim (chosen (nat_lt n (half_of t)) (Some (decimal n)) _ (Some text) e) [
   | inl p ↦
-      let lt = true_lt n (half_of t) p.0 in
+      let lt = lt_of_test n (half_of t) p.0 in
       subst (λ (xs : List ℕ). unsigned_value t xs ≡ Some (pos n)) (same_Some _ _ p.1)
       (plain_unsigned t (decimal n) n (count_again n (omega (arith, lt, half_fits t))) lt)
   | inr p ↦ elim (chosen (nat_lt n (range_of t) && nat_lt n (2 ^ 63)) (Some (negative_text (range_of t - n) n)) None (Some text) p.1) [
     | inr q ↦ absurd cc
     | inl q ↦
         let parts = and_parts (nat_lt n (range_of t)) (nat_lt n (2 ^ 63)) q.0 in
-        let within = true_lt n (range_of t) parts.0 in
-        let small = true_lt n (2 ^ 63) parts.1 in
-        let past = false_ge n (half_of t) p.0 in
+        let within = lt_of_test n (range_of t) parts.0 in
+        let small = lt_of_test n (2 ^ 63) parts.1 in
+        let past = ge_of_test n (half_of t) p.0 in
         let half = half_fits t in
         let read : readings_at (decimal (range_of t - n) ++ 32 ∷ 40 ∷ (decimal n ++ 41 ∷ [])) ≡ Some (range_of t - n, n) = readings_again (range_of t - n) n (omega (arith, past, half)) (omega (arith, small)) in
         let fit : agree t (range_of t - n) n ≡ true = agrees (half_of t) (range_of t - n) n (omega (arith, within)) (omega (arith, past)) (omega (arith, within)) in
@@ -201,13 +191,13 @@ unsigned_again t (pos n) text e = elim (chosen (nat_lt n (half_of t)) (Some (dec
 number_found : (text : List ℕ) (z : ℤ) → below (2 ^ 63) (count_of text) ≡ Some z → number_shown z ≡ Some text
 number_found text z e =
     let n = below_found (2 ^ 63) text (count_of text) z refl e in
-    subst (λ (y : ℤ). number_shown y ≡ Some text) (sym n.1) (rw (lt_true n.0 (2 ^ 63) n.2) (ap Some (sym n.3)))
+    subst (λ (y : ℤ). number_shown y ≡ Some text) (sym n.1) (rw (below_test n.0 (2 ^ 63) n.2) (ap Some (sym n.3)))
 
 number_again : (z : ℤ) (text : List ℕ) → number_shown z ≡ Some text → below (2 ^ 63) (count_of text) ≡ Some z
 number_again (negsuc n) text e = absurd cc
 number_again (pos n) text e = elim (chosen (nat_lt n (2 ^ 63)) (Some (decimal n)) None (Some text) e) [
   | inr p ↦ absurd cc
-  | inl p ↦ subst (λ (xs : List ℕ). below (2 ^ 63) (count_of xs) ≡ Some (pos n)) (same_Some _ _ p.1) (below_again (2 ^ 63) n (true_lt n (2 ^ 63) p.0) (omega arith))
+  | inl p ↦ subst (λ (xs : List ℕ). below (2 ^ 63) (count_of xs) ≡ Some (pos n)) (same_Some _ _ p.1) (below_again (2 ^ 63) n (lt_of_test n (2 ^ 63) p.0) (omega arith))
 ]
 
 -- ---- bits
@@ -242,10 +232,6 @@ bits_again bs text e = elim (chosen (list_all is_bit bs) (Some (98 ∷ 39 ∷ bs
 ]
 
 -- ---- values
-
-mapped : {A B : Type 0} (f : A → B) (o : Option A) (y : B) → option_map f o ≡ Some y → (x : A) × (o ≡ Some x) × (f x ≡ y)
-mapped f None y e = absurd cc
-mapped f (Some x) y e = (x, refl, same_Some _ _ e)
 
 tested : (b : Bool) (text : List ℕ) (v : Value) → cond b (Some (Bytes text)) None ≡ Some v → (b ≡ true) × (Bytes text ≡ v)
 tested true text v e = (refl, same_Some _ _ e)

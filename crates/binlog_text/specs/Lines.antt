@@ -5,10 +5,10 @@ use Rattle.std.specs.Char.{is_ascii_digit, is_ascii_alphabetic}
 use Rattle.std.specs.Str.{bytes_eq}
 use Rattle.row_images.specs.Values.{is_lower_digit}
 use Rattle.binlog_text.specs.Tokens.{after_prefix, cut_at, lacks}
-use Rattle.binlog_text.specs.declared.lines.Operation.{Operation}
-use Rattle.binlog_text.specs.declared.lines.Operation.TheVariants as operations
-use Rattle.binlog_text.specs.declared.lines.Event.{Event}
-use Rattle.binlog_text.specs.declared.lines.Event.TheVariants as events
+use Rattle.binlog_text.specs.declared.lines.RowOperation.{RowOperation}
+use Rattle.binlog_text.specs.declared.lines.RowOperation.TheVariants as operations
+use Rattle.binlog_text.specs.declared.lines.LogEvent.{LogEvent}
+use Rattle.binlog_text.specs.declared.lines.LogEvent.TheVariants as events
 use Rattle.binlog_text.specs.declared.lines.Mark.{Mark}
 use Rattle.binlog_text.specs.declared.lines.Mark.TheVariants as marks
 
@@ -22,12 +22,12 @@ pub record Column : Type 0 where
 
 pub data Content : Type 0 where
   OfMark : Mark → Content
-  OfHead : Event → Content
+  OfHead : LogEvent → Content
   OfTable : List ℕ → List ℕ → Content
   OfColumn : Column → Content
   OfGtid : List ℕ → Content
   OfSources : List ℕ → Bool → Content
-  OfRow : Operation → List ℕ → List ℕ → Content
+  OfRow : RowOperation → List ℕ → List ℕ → Content
   OfValue : ℕ → List ℕ → Content
 
 -- ---- parts of lines
@@ -40,18 +40,18 @@ IsName name = lacks 96 name ≡ true
 abbrev pub table_text : List ℕ → List ℕ → List ℕ
 table_text database table = 96 ∷ (database ++ 96 ∷ 46 ∷ 96 ∷ (table ++ 96 ∷ []))
 
-abbrev pub operation_text : Operation → List ℕ
+abbrev pub operation_text : RowOperation → List ℕ
 operation_text operations.Insert = codes "INSERT INTO "
 operation_text operations.Update = codes "UPDATE "
 operation_text operations.Delete = codes "DELETE FROM "
 
-abbrev pub rows_text : Operation → List ℕ
+abbrev pub rows_text : RowOperation → List ℕ
 rows_text operations.Insert = codes "Write_rows: table id "
 rows_text operations.Update = codes "Update_rows: table id "
 rows_text operations.Delete = codes "Delete_rows: table id "
 
 -- what the head of an event has after its time and place, as far as it determines the kind
-abbrev pub event_text : Event → List ℕ
+abbrev pub event_text : LogEvent → List ℕ
 event_text events.Start = codes "Start: binlog v 4, "
 event_text events.PreviousGtids = codes "Previous-GTIDs"
 event_text events.Gtid = codes "GTID\t"
@@ -74,7 +74,7 @@ abbrev pub ends_statement : List ℕ → Bool
 ends_statement text = has_ending_flags (cut_at 32 text)
 
 -- what the head of an event has after that says of a rows event whether it ends its statement
-abbrev pub HasFlags : Event → List ℕ → Type 0
+abbrev pub HasFlags : LogEvent → List ℕ → Type 0
 HasFlags (events.Rows operation ends) rest = ends ≡ ends_statement rest
 HasFlags _ rest = Unit {0}
 

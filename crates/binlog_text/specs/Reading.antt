@@ -4,10 +4,10 @@ use Rattle.std.specs.Str.{bytes_eq}
 use Rattle.row_images.specs.Words.{count_of}
 use Rattle.binlog_text.specs.Tokens.{after_prefix, cut_at, last_cut, nothing_in, ◌>>=◌}
 use Rattle.binlog_text.specs.Lines.{Content, OfMark, OfHead, OfTable, OfColumn, OfGtid, OfSources, OfRow, OfValue, event_text, rows_text, ends_statement, operation_text, begins_with_digit, begins, is_comment, is_source, is_setting, is_savepoint, is_frame, is_flush}
-use Rattle.binlog_text.specs.declared.lines.Operation.{Operation}
-use Rattle.binlog_text.specs.declared.lines.Operation.TheVariants as operations
-use Rattle.binlog_text.specs.declared.lines.Event.{Event}
-use Rattle.binlog_text.specs.declared.lines.Event.TheVariants as events
+use Rattle.binlog_text.specs.declared.lines.RowOperation.{RowOperation}
+use Rattle.binlog_text.specs.declared.lines.RowOperation.TheVariants as operations
+use Rattle.binlog_text.specs.declared.lines.LogEvent.{LogEvent}
+use Rattle.binlog_text.specs.declared.lines.LogEvent.TheVariants as events
 use Rattle.binlog_text.specs.declared.lines.Mark.TheVariants as marks
 
 -- by what follows a prefix, or by another way
@@ -26,7 +26,7 @@ table_at text = do
   table ← cut_at 96 second
   Some (database.0, table.0, table.1)
 
-abbrev pub row_at : Operation → List ℕ → Option Content
+abbrev pub row_at : RowOperation → List ℕ → Option Content
 row_at operation text = do
   table ← table_at text
   _ ← nothing_in table.2
@@ -97,10 +97,10 @@ table_map_at text = do
   _ ← count_of digits
   Some (OfTable table.0 table.1)
 
-abbrev pub rows_event : Operation → List ℕ → Option Event
+abbrev pub rows_event : RowOperation → List ℕ → Option LogEvent
 rows_event operation rest = Some (events.Rows operation (ends_statement rest))
 
-abbrev pub other_event : List ℕ → Option Event
+abbrev pub other_event : List ℕ → Option LogEvent
 other_event text =
     if begins (event_text events.Xid) text then Some events.Xid
     else if begins (event_text events.Payload) text then Some events.Payload
@@ -110,7 +110,7 @@ other_event text =
     else if begins (event_text events.Stop) text then Some events.Stop
     else None
 
-abbrev pub event_of : List ℕ → Option Event
+abbrev pub event_of : List ℕ → Option LogEvent
 event_of text =
     if begins (event_text events.Query) text then Some events.Query
     else if begins (event_text events.Gtid) text then Some events.Gtid

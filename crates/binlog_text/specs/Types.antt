@@ -63,8 +63,8 @@ integer_or_other None word rest = other_named word rest
 abbrev pub parse_type : List ℕ → Option ColumnType
 parse_type text = integer_or_other (integer_named (run is_upper text)) (run is_upper text) (skip_while is_upper text)
 
--- Two values are equal for the server exactly where their bytes are: of text this holds under a binary collation that pads no text, and of CHAR,
--- which is kept without blanks at its end, under each binary collation.
+-- Two values are equal for the server if and only if their bytes are: of text this holds under a binary collation that pads no text, and of
+-- CHAR, which is kept without blanks at its end, under each binary collation.
 abbrev pub compares_bytes : List ℕ → Bool
 compares_bytes text =
     if is_varied_text (run is_upper text) then ends_with nat_eq text (codes " COLLATE utf8mb4_0900_bin")

@@ -89,7 +89,7 @@ bytes_shown types.Seconds bs = if is_seconds bs then Some bs else None
 bytes_shown types.Bits bs = if list_all is_bit bs then Some (98 ∷ 39 ∷ bs ++ 39 ∷ []) else None
 bytes_shown types.Quoted bs = Some (quote bs)
 
--- what is printed of a value in a column of this type, where it may have the value
+-- what is printed of a value in a column of this type, if it may have the value
 abbrev pub shown_value : ColumnType → Value → Option (List ℕ)
 shown_value type Null = Some (codes "NULL")
 shown_value type (Int z) = int_shown type z

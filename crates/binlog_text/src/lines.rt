@@ -2,7 +2,7 @@
 
 /// What a row event does to its rows.
 #[derive(Clone, Copy, Debug, PartialEq, Eq)]
-pub enum Operation {
+pub enum RowOperation {
     Insert,
     Update,
     Delete,
@@ -10,13 +10,13 @@ pub enum Operation {
 
 /// The kinds of events whose head is a line by itself.
 #[derive(Clone, Copy, Debug, PartialEq, Eq)]
-pub enum Event {
+pub enum LogEvent {
     Start,
     PreviousGtids,
     Gtid,
     Query,
     /// The rows of a table, and whether the event ends its statement.
-    Rows(Operation, bool),
+    Rows(RowOperation, bool),
     Xid,
     Payload,
     Rotate,
@@ -62,10 +62,10 @@ pub enum Mark {
 
 /// A line of mysqlbinlog's text, with the bytes that it holds.
 #[derive(Clone, Copy, Debug)]
-pub enum Line<'a> {
+pub enum LogLine<'a> {
     Mark(Mark),
     /// The head of an event.
-    Head(Event),
+    Head(LogEvent),
     /// The head of the event that maps a table, by the names of its database and its own.
     TableMap(&'a [u8], &'a [u8]),
     /// A column of the table that is mapped.
@@ -75,7 +75,7 @@ pub enum Line<'a> {
     /// GTIDs of the previous set, and whether more follow.
     Sources(&'a [u8], bool),
     /// A row of a table, by the names of its database and its own.
-    Row(Operation, &'a [u8], &'a [u8]),
+    Row(RowOperation, &'a [u8], &'a [u8]),
     /// The value of a column, counted from 1.
     Value(u64, &'a [u8]),
 }
@@ -84,7 +84,7 @@ pub enum Line<'a> {
 #[derive(Clone, Copy, Debug)]
 pub struct Column<'a> {
     pub is_first: bool,
-    /// Its name, where the log has it.
+    /// Its name, if the log has it.
     pub name: Option<&'a [u8]>,
     /// Its type, with all that the line has of it.
     pub column_type: &'a [u8],

@@ -47,7 +47,7 @@ fn hex_value(digit: u8) -> Option<u8>
     }
 }
 
-/// The byte of two digits, where it is not one that has a letter.
+/// The byte of two digits, unless it is one that has a letter.
 fn byte_of_digits(high: u8, digit: u8) -> Option<u8>
     requires { high ≤ 16 }
     ensures { result ≡ low_of high (hex_value digit) }

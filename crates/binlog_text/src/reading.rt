@@ -7,7 +7,7 @@ ghost use Rattle.binlog_text.specs.Lines.{Content, IsLine, is_comment, is_source
 ghost use Rattle.binlog_text.specs.Reading.{table_at, row_at, assignment_at, row_line, is_last_at, name_at, column_at, sources, sources_in, comment_line, table_map_at, rows_event, other_event, event_of, content_at, head_line, gtid_at, plain_line, line_of};
 ghost use Rattle.binlog_text.specs.Contents.{content_of};
 
-use crate::lines::{Column, Event, Line, Mark, Operation};
+use crate::lines::{Column, LogEvent, LogLine, Mark, RowOperation};
 use crate::tokens::{after_prefix, cut_at};
 use row_images::count;
 
@@ -30,7 +30,7 @@ fn table(text: &[u8]) -> Option<(&[u8], &[u8], &[u8])>
     Some((database, table, rest))
 }
 
-fn row(operation: Operation, text: &[u8]) -> Option<Line<'_>>
+fn row(operation: RowOperation, text: &[u8]) -> Option<LogLine<'_>>
     ensures { option_map content_of result ≡ row_at operation text.now }
 {
     let Some((database, table, rest)) = table(text) else {
@@ -39,10 +39,10 @@ fn row(operation: Operation, text: &[u8]) -> Option<Line<'_>>
     if !rest.is_empty() {
         return None;
     }
-    Some(Line::Row(operation, database, table))
+    Some(LogLine::Row(operation, database, table))
 }
 
-fn assignment_line(text: &[u8]) -> Option<Line<'_>>
+fn assignment_line(text: &[u8]) -> Option<LogLine<'_>>
     ensures { option_map content_of result ≡ assignment_at text.now }
 {
     let Some((column, value)) = cut_at(text, b'=') else {
@@ -51,33 +51,33 @@ fn assignment_line(text: &[u8]) -> Option<Line<'_>>
     let Some(column) = count(column) else {
         return None;
     };
-    Some(Line::Value(column, value))
+    Some(LogLine::Value(column, value))
 }
 
 /// The line after `### `.
-fn row_line(text: &[u8]) -> Option<Line<'_>>
+fn row_line(text: &[u8]) -> Option<LogLine<'_>>
     ensures { option_map content_of result ≡ row_line text.now }
 {
     if let Some(rest) = after_prefix(text, b"  @") {
         return assignment_line(rest);
     }
     if let Some(rest) = after_prefix(text, b"INSERT INTO ") {
-        return row(Operation::Insert, rest);
+        return row(RowOperation::Insert, rest);
     }
     if let Some(rest) = after_prefix(text, b"UPDATE ") {
-        return row(Operation::Update, rest);
+        return row(RowOperation::Update, rest);
     }
     if let Some(rest) = after_prefix(text, b"DELETE FROM ") {
-        return row(Operation::Delete, rest);
+        return row(RowOperation::Delete, rest);
     }
     if text == b"WHERE".as_slice() {
-        return Some(Line::Mark(Mark::Where));
+        return Some(LogLine::Mark(Mark::Where));
     }
     if text == b"SET".as_slice() {
-        return Some(Line::Mark(Mark::Set));
+        return Some(LogLine::Mark(Mark::Set));
     }
     if begins(text, b"Extra row info for partitioning: ") {
-        return Some(Line::Mark(Mark::Extra));
+        return Some(LogLine::Mark(Mark::Extra));
     }
     None
 }
@@ -115,7 +115,7 @@ fn name(text: &[u8]) -> Option<(&[u8], &[u8])>
     Some((name, rest))
 }
 
-fn column(is_first: bool, text: &[u8]) -> Option<Line<'_>>
+fn column(is_first: bool, text: &[u8]) -> Option<LogLine<'_>>
     ensures { option_map content_of result ≡ column_at is_first text.now }
 {
     let Some((front, end)) = last_cut(text) else {
@@ -125,7 +125,7 @@ fn column(is_first: bool, text: &[u8]) -> Option<Line<'_>>
         return None;
     };
     let Some(rest) = after_prefix(front, b"`") else {
-        return Some(Line::Column(Column {
+        return Some(LogLine::Column(Column {
             is_first,
             name: None,
             column_type: front,
@@ -135,7 +135,7 @@ fn column(is_first: bool, text: &[u8]) -> Option<Line<'_>>
     let Some((name, column_type)) = name(rest) else {
         return None;
     };
-    Some(Line::Column(Column {
+    Some(LogLine::Column(Column {
         is_first,
         name: Some(name),
         column_type,
@@ -158,17 +158,17 @@ fn is_source(text: &[u8]) -> bool
     }
 }
 
-fn sources(text: &[u8], more: bool) -> Option<Line<'_>>
+fn sources(text: &[u8], more: bool) -> Option<LogLine<'_>>
     ensures { option_map content_of result ≡ sources text.now more }
 {
     if is_source(text) {
-        Some(Line::Sources(text, more))
+        Some(LogLine::Sources(text, more))
     } else {
         None
     }
 }
 
-fn sources_in(text: &[u8]) -> Option<Line<'_>>
+fn sources_in(text: &[u8]) -> Option<LogLine<'_>>
     ensures { option_map content_of result ≡ sources_in text.now (last_cut text.now) }
 {
     match last_cut(text) {
@@ -202,11 +202,11 @@ fn is_comment(text: &[u8]) -> bool
 }
 
 /// The line after `# `.
-fn comment_line(text: &[u8]) -> Option<Line<'_>>
+fn comment_line(text: &[u8]) -> Option<LogLine<'_>>
     ensures { option_map content_of result ≡ comment_line text.now }
 {
     if begins(text, b"at ") {
-        return Some(Line::Mark(Mark::Place));
+        return Some(LogLine::Mark(Mark::Place));
     }
     if let Some(rest) = after_prefix(text, b"Columns(") {
         return column(true, rest);
@@ -215,18 +215,18 @@ fn comment_line(text: &[u8]) -> Option<Line<'_>>
         return column(false, rest);
     }
     if is_comment(text) {
-        return Some(Line::Mark(Mark::Comment));
+        return Some(LogLine::Mark(Mark::Comment));
     }
     if text == b"[empty]".as_slice() {
-        return Some(Line::Mark(Mark::Empty));
+        return Some(LogLine::Mark(Mark::Empty));
     }
     if text == b"End of log file".as_slice() {
-        return Some(Line::Mark(Mark::Closed));
+        return Some(LogLine::Mark(Mark::Closed));
     }
     sources_in(text)
 }
 
-fn table_map(text: &[u8]) -> Option<Line<'_>>
+fn table_map(text: &[u8]) -> Option<LogLine<'_>>
     ensures { option_map content_of result ≡ table_map_at text.now }
 {
     let Some((database, table, rest)) = table(text) else {
@@ -238,7 +238,7 @@ fn table_map(text: &[u8]) -> Option<Line<'_>>
     if count(digits).is_none() {
         return None;
     }
-    Some(Line::TableMap(database, table))
+    Some(LogLine::TableMap(database, table))
 }
 
 /// Whether the flags after a table's number say that the event ends its statement.
@@ -252,63 +252,63 @@ fn ends_statement(text: &[u8]) -> bool
 }
 
 /// A rows event, by what its head has after `table id `.
-fn rows_event(operation: Operation, text: &[u8]) -> Option<Event>
+fn rows_event(operation: RowOperation, text: &[u8]) -> Option<LogEvent>
     ensures { result ≡ rows_event operation text.now }
 {
-    Some(Event::Rows(operation, ends_statement(text)))
+    Some(LogEvent::Rows(operation, ends_statement(text)))
 }
 
 /// The kind of an event that holds no rows, by its head.
-fn other_event(text: &[u8]) -> Option<Event>
+fn other_event(text: &[u8]) -> Option<LogEvent>
     ensures { result ≡ other_event text.now }
 {
     if begins(text, b"Xid = ") {
-        Some(Event::Xid)
+        Some(LogEvent::Xid)
     } else if begins(text, b"Transaction_Payload\t") {
-        Some(Event::Payload)
+        Some(LogEvent::Payload)
     } else if begins(text, b"Previous-GTIDs") {
-        Some(Event::PreviousGtids)
+        Some(LogEvent::PreviousGtids)
     } else if begins(text, b"Start: binlog v 4, ") {
-        Some(Event::Start)
+        Some(LogEvent::Start)
     } else if begins(text, b"Rotate to ") {
-        Some(Event::Rotate)
+        Some(LogEvent::Rotate)
     } else if begins(text, b"Stop") {
-        Some(Event::Stop)
+        Some(LogEvent::Stop)
     } else {
         None
     }
 }
 
 /// The kind of an event, by its head.
-fn event(text: &[u8]) -> Option<Event>
+fn event(text: &[u8]) -> Option<LogEvent>
     ensures { result ≡ event_of text.now }
 {
     if begins(text, b"Query\t") {
-        return Some(Event::Query);
+        return Some(LogEvent::Query);
     }
     if begins(text, b"GTID\t") {
-        return Some(Event::Gtid);
+        return Some(LogEvent::Gtid);
     }
     if let Some(rest) = after_prefix(text, b"Write_rows: table id ") {
-        return rows_event(Operation::Insert, rest);
+        return rows_event(RowOperation::Insert, rest);
     }
     if let Some(rest) = after_prefix(text, b"Update_rows: table id ") {
-        return rows_event(Operation::Update, rest);
+        return rows_event(RowOperation::Update, rest);
     }
     if let Some(rest) = after_prefix(text, b"Delete_rows: table id ") {
-        return rows_event(Operation::Delete, rest);
+        return rows_event(RowOperation::Delete, rest);
     }
     other_event(text)
 }
 
-fn content_line(text: &[u8]) -> Option<Line<'_>>
+fn content_line(text: &[u8]) -> Option<LogLine<'_>>
     ensures { option_map content_of result ≡ content_at text.now }
 {
     if let Some(rest) = after_prefix(text, b"Table_map: ") {
         return table_map(rest);
     }
     match event(text) {
-        Some(event) => Some(Line::Head(event)),
+        Some(event) => Some(LogLine::Head(event)),
         None => None,
     }
 }
@@ -323,7 +323,7 @@ fn begins_with_digit(text: &[u8]) -> bool
 }
 
 /// The head of an event, after `#`.
-fn head_line(text: &[u8]) -> Option<Line<'_>>
+fn head_line(text: &[u8]) -> Option<LogLine<'_>>
     ensures { option_map content_of result ≡ head_line text.now }
 {
     let Some((stamp, rest)) = cut_at(text, b'\t') else {
@@ -403,56 +403,56 @@ fn is_frame(text: &[u8]) -> bool
         || text == b"/*!50003 SET COMPLETION_TYPE=@OLD_COMPLETION_TYPE*/;".as_slice()
 }
 
-fn gtid(text: &[u8]) -> Option<Line<'_>>
+fn gtid(text: &[u8]) -> Option<LogLine<'_>>
     ensures { option_map content_of result ≡ gtid_at text.now }
 {
     let Some((gtid, rest)) = cut_at(text, b'\'') else {
         return None;
     };
     if rest == b"/*!*/;".as_slice() {
-        return Some(Line::Gtid(gtid));
+        return Some(LogLine::Gtid(gtid));
     }
     if gtid == b"AUTOMATIC".as_slice() && rest == b" /* added by mysqlbinlog */ /*!*/;".as_slice() {
-        return Some(Line::Mark(Mark::Automatic));
+        return Some(LogLine::Mark(Mark::Automatic));
     }
     None
 }
 
 /// A line that no `#` begins.
-fn plain_line(text: &[u8]) -> Option<Line<'_>>
+fn plain_line(text: &[u8]) -> Option<LogLine<'_>>
     ensures { option_map content_of result ≡ plain_line text.now }
 {
     if let Some(rest) = after_prefix(text, b"SET @@SESSION.GTID_NEXT= '") {
         return gtid(rest);
     }
     if text == b"BEGIN".as_slice() {
-        return Some(Line::Mark(Mark::Begin));
+        return Some(LogLine::Mark(Mark::Begin));
     }
     if text == b"COMMIT".as_slice() {
-        return Some(Line::Mark(Mark::Commit));
+        return Some(LogLine::Mark(Mark::Commit));
     }
     if text == b"/*!*/;".as_slice() {
-        return Some(Line::Mark(Mark::Ended));
+        return Some(LogLine::Mark(Mark::Ended));
     }
     if text == b"COMMIT/*!*/;".as_slice() {
-        return Some(Line::Mark(Mark::Committed));
+        return Some(LogLine::Mark(Mark::Committed));
     }
     if is_setting(text) {
-        return Some(Line::Mark(Mark::Setting));
+        return Some(LogLine::Mark(Mark::Setting));
     }
     if is_savepoint(text) {
-        return Some(Line::Mark(Mark::Savepoint));
+        return Some(LogLine::Mark(Mark::Savepoint));
     }
     if is_frame(text) {
-        return Some(Line::Mark(Mark::Frame));
+        return Some(LogLine::Mark(Mark::Frame));
     }
     if is_flush(text) {
-        return Some(Line::Mark(Mark::Flush));
+        return Some(LogLine::Mark(Mark::Flush));
     }
     None
 }
 
-fn line_of(text: &[u8]) -> Option<Line<'_>>
+fn line_of(text: &[u8]) -> Option<LogLine<'_>>
     ensures { option_map content_of result ≡ line_of text.now }
 {
     if let Some(rest) = after_prefix(text, b"### ") {
@@ -468,7 +468,7 @@ fn line_of(text: &[u8]) -> Option<Line<'_>>
 }
 
 /// The content of a line. A line that is none of mysqlbinlog's, or that is not known here, has none.
-pub fn read_line(text: &[u8]) -> Option<Line<'_>>
+pub fn read_line(text: &[u8]) -> Option<LogLine<'_>>
     ensures exact { option_map content_of result ≡ line_of text.now }
     // The result is the content that the grammar gives the line.
     ensures found { IfSome result (λ l. IsLine (content_of l) text.now) }

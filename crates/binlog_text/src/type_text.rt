@@ -104,7 +104,7 @@ pub fn parse_type(text: &[u8]) -> Option<ColumnType>
     }
 }
 
-/// Whether two values of a column are equal for the server exactly where their bytes are.
+/// Whether two values of a column are equal for the server if and only if their bytes are.
 pub fn compares_bytes(text: &[u8]) -> bool
     ensures { result ≡ compares_bytes text.now }
 {

@@ -6,7 +6,7 @@ use Rattle.rows.specs.Apply.{Rows}
 use Rattle.rows.specs.Carriers.{AreCarriers}
 use Rattle.rows.specs.Database.{Database}
 use Rattle.world.specs.Meaning.{AreJournals}
-use Rattle.ordered_bundles.specs.Exact.{HasRows, EqualUnionsEqualRows, union_of}
+use Rattle.world.specs.Exact.{HasRows, EqualUnionsEqualRows, union_of}
 use Rattle.txn_journal.specs.BundleStates.{BundleValue}
 use Rattle.serving.specs.declared.order.Order.{Order}
 use Rattle.serving.specs.declared.order.Order.TheVariants.{BySource, ByConflict}

@@ -1,4 +1,4 @@
--- What the journals of a bundle result in where workers apply them.
+-- The result of a bundle's journals when workers apply them.
 use Rattle.std.specs.Prelude.{◌≡◌, ◌⊎◌, ℕ, ◌+◌, List, [], ◌∷◌, ◌++◌, Ok}
 use Rattle.txn_journal.specs.BundleStates.{BundleValue}
 use Rattle.replica_core.specs.Draining.{AreStoppedOrDone}
@@ -50,7 +50,7 @@ TellsHistory order b notes = (book : ClosedValue) × IsHistory order b book × (
 abbrev pub HasNoHistory : Order → BundleValue → List ℕ → Type 0
 HasNoHistory order b notes = (keys_over order b ≡ Sound → ⊥) × (notes ≡ [])
 
--- the lines of a history, or none where the keys are not sound
+-- the lines of a history, or none if the keys are not sound
 abbrev pub TellsOf : Order → BundleValue → List ℕ → Type 0
 TellsOf order b notes = TellsHistory order b notes ⊎ HasNoHistory order b notes
 
@@ -67,7 +67,7 @@ pub record IsUntold (printed : Printed) (notes : List ℕ) : Type 0 where
   pub refused : printed ≡ refused_with refusal
   pub none : notes ≡ []
 
--- It is the answer of applying to these bytes, and these are the lines of a history that leads to it, or none where there is none.
+-- It is the answer of applying to these bytes, and these are the lines of a history that leads to it, or none if there is none.
 pub record Tells (order : Order) (bytes : List ℕ) (printed : Printed) (notes : List ℕ) : Type 0 where
   pub applies : Applies order bytes printed
   pub told : IsTold order bytes printed notes ⊎ IsUntold printed notes

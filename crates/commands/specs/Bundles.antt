@@ -6,9 +6,9 @@ use Rattle.rows.specs.declared.change.TableRow.{TableRow}
 use Rattle.rows.specs.Apply.{Rows}
 use Rattle.world.specs.declared.verdict.Verdict.{Verdict}
 use Rattle.world.specs.declared.verdict.Verdict.TheVariants.{Sound}
-use Rattle.source_history.specs.World.{rows_of}
+use Rattle.history.specs.Sources.{rows_of}
 use Rattle.gtid_set.specs.Sets.{Gtids}
-use Rattle.ordered_replicas.specs.Deciding.{all_of}
+use Rattle.convergence.specs.Deciding.{all_of}
 use Rattle.txn_journal.specs.BundleStates.{BundleValue}
 use Rattle.txn_journal.specs.BundleReading.{bundle_start, feed_bundle_bytes, closing_bundle}
 use Rattle.txn_journal.specs.BundleText.{WritesBundleBy, WritesBundle, upgrade_of}
@@ -17,7 +17,7 @@ use Rattle.txn_journal.specs.declared.lines.Version.TheVariants.{One}
 use Rattle.txn_journal.specs.declared.fault.JournalFault.{JournalFault}
 use Rattle.gtid_report.specs.State.{executed_line, row_line, state_text}
 use Rattle.gtid_report.specs.VerdictLines.{verdict_line}
-use Rattle.ordered_history.specs.World as ordered
+use Rattle.history.specs.World as ordered
 use Rattle.serving.specs.declared.order.Order.{Order}
 use Rattle.serving.specs.declared.order.Order.TheVariants.{BySource, ByConflict}
 use Rattle.serving.specs.Verdicts.{world_over, joined_over, verdict_over}
@@ -86,7 +86,7 @@ printed_state executed rows = record { text = state_text executed rows; outcome 
 abbrev pub union_of_journals : BundleValue → Gtids
 union_of_journals b = all_of b.opened b.journals
 
--- the state, where the verdict is Sound (these transactions then apply); else the verdict
+-- the state, if the verdict is Sound (these transactions then apply); else the verdict
 abbrev pub state_or_verdict : Verdict → Gtids → Result Rows RowFault → Printed
 state_or_verdict Sound executed (Ok rows) = printed_state executed rows
 state_or_verdict v executed rows = printed_verdict v
@@ -96,7 +96,8 @@ abbrev pub rows_of_union : Order → BundleValue → Result Rows RowFault
 rows_of_union BySource b = rows_of (world_over b) (set.contains (union_of_journals b))
 rows_of_union ByConflict b = ordered.rows_of (joined_over b) (set.contains (union_of_journals b))
 
--- The executed set is that of all journals together, and the rows are those that this set denotes, where the audit reports Sound; else its verdict.
+-- The executed set is that of all journals together, and the rows are those that this set denotes, if the audit reports Sound; else its
+-- verdict.
 abbrev pub apply_answer : Order → BundleValue → Printed
 apply_answer order b = state_or_verdict (verdict_over order b) (union_of_journals b) (rows_of_union order b)
 

@@ -4,13 +4,13 @@ use Rattle.std.specs.Io.KnownBytes.{Appends, Consumes, IsAtEnd}
 use Rattle.commands.specs.declared.edge.RunFault.{RunFault}
 use Rattle.commands.specs.declared.edge.RunFault.TheVariants.{Memory, Read, Write}
 
--- a reader, the bytes that it has left, where these are known, and its failed calls
+-- a reader, the bytes that it has left, if these are known, and its failed calls
 pub record Input (S : Type 0) : Type 0 where
   pub reader : S
   pub left : Option (List ℕ)
   pub failed : ℕ
 
--- a writer, the bytes that it holds, where these are known, and its failed calls
+-- a writer, the bytes that it holds, if these are known, and its failed calls
 pub record Output (W : Type 0) : Type 0 where
   pub writer : W
   pub written : Option (List ℕ)

@@ -3,7 +3,7 @@ use Rattle.std.specs.Prelude.{◌≡◌, Ok}
 use Rattle.rows.specs.Apply.{Rows}
 use Rattle.world.specs.Audit.{all_entries}
 use Rattle.world.specs.declared.verdict.Verdict.TheVariants.{Sound}
-use Rattle.ordered_bundles.specs.Exact.{AgreeInContents}
+use Rattle.world.specs.Exact.{AgreeInContents}
 use Rattle.txn_journal.specs.BundleStates.{BundleValue}
 use Rattle.serving.specs.declared.order.Order.{Order}
 use Rattle.serving.specs.Verdicts.{verdict_over}

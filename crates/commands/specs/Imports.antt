@@ -99,7 +99,7 @@ limit_text limits.Changes = []
 limit_text (limits.Columns table) = 32 ∷ table
 limit_text (limits.Bytes table column) = column_text table column
 
--- a cause as it is printed, where this is known at its line
+-- a cause as it is printed, if this is known at its line
 abbrev pub cause_text : ImportCause → Place → List ℕ
 cause_text (cause.Line refusal) place = refusal_text refusal place
 cause_text cause.Unfinished place = codes "unfinished"

@@ -39,7 +39,7 @@ Asking = SourceId × Gtids
 abbrev pub asking_in : List ℕ → List ℕ → Result Asking Fault
 asking_in own ask = source_word own >>= λ source. set_word ask >>= λ gtids. Ok (source, gtids)
 
--- the answer where these entries are sent, or where nothing is
+-- the answer if these entries are sent, or if nothing is
 abbrev pub printed_sending : Result (List Entry) PositionFault → Printed
 printed_sending (Ok entries) = record { text = sending_text entries; outcome = Done }
 printed_sending (Err (faults.PurgedRequired gtids)) = record { text = with_line_feed (required_line gtids); outcome = Refused }
@@ -54,7 +54,7 @@ position_answer asking j = printed_sending (sent j asking.1 (Some asking.0))
 abbrev pub Positions : Asking → List ℕ → Printed → Type 0
 Positions asking bytes printed = IsAnswerTo ParsesAsJournal journal_in (position_answer asking) (λ j. IsPlanFault j asking.1) bytes printed
 
--- where a word is bad, the answer is its line, and nothing is read; else the answer is for all that is read
+-- if a word is bad, the answer is its line, and nothing is read; else the answer is for all that is read
 abbrev pub to_asking : Result Asking Fault → Answering
 to_asking (Ok asking) = to_all (Positions asking)
 to_asking (Err fault) = at_once (printed_fault fault)

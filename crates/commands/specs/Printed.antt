@@ -65,13 +65,13 @@ Holds answer printed = (answer.text ≡ printed.text) × (answer.outcome ≡ pri
 abbrev pub HoldsOne : (List ℕ → Printed → Type 0) → List ℕ → Answer → Type 0
 HoldsOne answers bytes answer = (printed : Printed) × answers bytes printed × Holds answer printed
 
--- the answer, or the line of the refusal, is the answer to these bytes; or memory was refused
+-- the answer, or the line of the refusal, is the answer to these bytes; or out of memory
 abbrev pub Finds : (List ℕ → Printed → Type 0) → List ℕ → Result Answer Fault → Type 0
 Finds answers bytes (Ok answer) = HoldsOne answers bytes answer
 Finds answers bytes (Err (fault.Refused r)) = answers bytes (refused_with r)
 Finds answers bytes (Err fault.Memory) = Unit {0}
 
--- there is no answer: memory was refused, or a set for it has too many sources or intervals, where that may be
+-- there is no answer: out of memory, or a set for it has too many sources or intervals, if that may be
 abbrev pub GivesUp : (SetFault → Type 0) → Fault → Type 0
 GivesUp may fault.Memory = Unit {0}
 GivesUp may (fault.Refused r) = ((r ≡ refusal.SourcesFull) × may sets.SourcesFull) ⊎ ((r ≡ refusal.PoolFull) × may sets.PoolFull)
@@ -92,7 +92,7 @@ abbrev pub IsAnswer : {S : Type 0} → Answering → Input S → Input S → Pri
 IsAnswer (at_once answer) old new printed = (new ≡ old) × (printed ≡ answer)
 IsAnswer (to_all answers) old new printed = (bytes : List ℕ) × HasRead old.left new.left bytes × answers bytes printed
 
--- a read failed, where the answer needs one
+-- a read failed, if the answer needs one
 abbrev pub IsUnread : {S : Type 0} → Answering → Input S → Input S → Type 0
 IsUnread (at_once answer) old new = ⊥
 IsUnread (to_all answers) old new = IsReadFault old new
@@ -111,14 +111,14 @@ pub record IsCutOff {S W : Type 0} (answering : Answering) (old new : StreamsVal
   pub wrote : Begins old.output.written new.output.written printed.text
   pub counted : new.output.failed ≡ one_more old.output.failed
 
--- Memory was refused behind a prefix of the answer, which was written.
+-- Out of memory after a prefix of the answer, which was written.
 pub record HasBegun {S W : Type 0} (answering : Answering) (old new : StreamsValue S W) : Type 0 where
   pub printed : Printed
   pub answer : IsAnswer answering old.input new.input printed
   pub wrote : Begins old.output.written new.output.written printed.text
   pub calm : new.output.failed ≡ old.output.failed
 
--- Memory was refused, with nothing written or behind a prefix of the answer; or reading failed, and nothing was written; or writing failed.
+-- Out of memory, with nothing written or after a prefix of the answer; or reading failed, and nothing was written; or writing failed.
 abbrev pub HasStopped : {S W : Type 0} → Answering → StreamsValue S W → StreamsValue S W → RunFault → Type 0
 HasStopped answering old new Memory = (new.output ≡ old.output) ⊎ HasBegun answering old new
 HasStopped answering old new Read = (new.output ≡ old.output) × IsUnread answering old.input new.input

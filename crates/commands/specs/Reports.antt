@@ -18,7 +18,7 @@ pub record HoldsReport (reports : List ℕ → Printed → List ℕ → Type 0) 
   pub reported : reports bytes printed (held.notes.items)
   pub holds : Holds held.answer printed
 
--- the result holds an answer to the bytes with its notes, or the line of this refusal is the answer; or memory was refused
+-- the result holds an answer to the bytes with its notes, or the line of this refusal is the answer; or out of memory
 abbrev pub FindsReport : (List ℕ → Printed → List ℕ → Type 0) → (List ℕ → Printed → Type 0) → List ℕ → Result Report Fault → Type 0
 FindsReport reports answers bytes (Ok held) = HoldsReport reports bytes held
 FindsReport reports answers bytes (Err (fault.Refused r)) = answers bytes (refused_with r)

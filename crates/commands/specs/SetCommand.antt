@@ -24,7 +24,7 @@ printed_line (Ok line) = record { text = with_line_feed line; outcome = Done }
 printed_line (Err (fault.Refused r)) = record { text = with_line_feed (refusal_line r); outcome = refusal_ending r }
 printed_line (Err fault.Memory) = record { text = []; outcome = Refused }
 
--- the answer to a function's name, its first word, and its second word where one is given
+-- the answer to a function's name, its first word, and its second word if one is given
 abbrev pub printed_set : List ℕ → List ℕ → Option (List ℕ) → Printed
 printed_set function a b = printed_line (function_line function a b)
 
@@ -38,11 +38,11 @@ is_input word = bytes_eq word (codes "-")
 abbrev pub names_input : Option (List ℕ) → Bool
 names_input word = option_map_or is_input word false
 
--- a word, or this input, where the word denotes it
+-- a word, or this input if the word denotes it
 abbrev pub word_or : List ℕ → List ℕ → List ℕ
 word_or input word = if is_input word then input else word
 
--- the same, where a word may denote this input
+-- the same, if a word may denote this input
 abbrev pub printed_set_over : List ℕ → List ℕ → Option (List ℕ) → List ℕ → Printed
 printed_set_over function a b input = printed_set function (word_or input a) (option_map (word_or input) b)
 

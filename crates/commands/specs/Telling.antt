@@ -1,4 +1,4 @@
--- What is found where the history is asked for, and what is written of it.
+-- What is found if the history is asked for, and what is written of it.
 use Rattle.std.specs.Prelude.{◌≡◌, ℕ, List, [], Result, Ok, Err}
 use Rattle.gtid_report.specs.declared.fault.Fault.{Fault}
 use Rattle.gtid_report.specs.declared.fault.Fault.TheVariants as fault

@@ -26,7 +26,7 @@ pub(crate) fn state_answer(alloc: Global, core: &Core) -> Result<Answer, AllocEr
     })
 }
 
-/// The line of a verdict on a bundle that is not Sound.
+/// The line of a verdict on a bundle, which is not Sound.
 #[tactic(auto, using(crate::proofs::Unsound::verdict_applied))]
 pub(crate) fn unsound_answer(
     alloc: Global,

@@ -29,16 +29,16 @@ pub enum Way {
     Replica,
 }
 
-/// A bundle is applied by so many workers, 1 to 64.
+/// The request to apply a bundle with this many workers, 1 to 64.
 #[derive(Drop)]
-struct Apply<'a, R: Threads + Wait + Sync> {
+struct ApplyRequest<'a, R: Threads + Wait + Sync> {
     threads: &'a R,
     way: Way,
     order: Order,
     workers: u8,
 }
 
-impl<'a, R: Threads + Wait + Sync> Request for Apply<'a, R> {
+impl<'a, R: Threads + Wait + Sync> Request for ApplyRequest<'a, R> {
     type Value = Bundle;
 
     ghost ready = { λ asked. (1 ≤ asked.workers) × (asked.workers ≤ 64) × IsSync R.row };
@@ -56,9 +56,9 @@ impl<'a, R: Threads + Wait + Sync> Request for Apply<'a, R> {
     }
 }
 
-/// Reads a bundle, and writes the state in which all its journals are executed, or the line of the
-/// verdict of the audit that asks for this order, where that is not Sound, or the line of its refusal, and nothing else.
-/// With two workers and more, the lines of the bundle are parsed by threads too, while what follows is read.
+/// Reads a bundle, and writes the state in which all its journals are executed, or the line of the verdict of the audit that asks for this
+/// order, if that is not Sound, or the line of its refusal, and nothing else. With two or more workers, threads also parse the lines of the
+/// bundle, while what follows is read.
 pub fn apply_bundle<S: Source + Send, W: Sink, R: Threads + Wait + Sync>(
     rt: &R,
     alloc: Global,
@@ -72,7 +72,7 @@ pub fn apply_bundle<S: Source + Send, W: Sink, R: Threads + Wait + Sync>(
     ensures done { IfOk result (IsDone (to_all (Applies order)) streams.old streams.new) }
     ensures failed { IfErr result (HasFailed (to_all (Applies order)) streams.old streams.new) }
 {
-    let request = Apply {
+    let request = ApplyRequest {
         threads: rt,
         way,
         order,

@@ -36,7 +36,7 @@ pub(crate) fn verdict_answer(alloc: Global, verdict: &Verdict) -> Result<Answer,
     })
 }
 
-/// A bundle is audited by an order.
+/// The request to audit a bundle by an order.
 #[derive(Drop)]
 struct Audit {
     order: Order,

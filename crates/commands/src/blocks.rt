@@ -15,11 +15,11 @@ use txn_journal::BundleReader;
 /// How many reads, of at most 65,536 bytes each, make the first block: 2 MiB. Nothing is parsed while it is read.
 const FIRST_READS: usize = 32;
 
-/// How many make a block at most: 4 MiB. Freeing a larger one at the end takes milliseconds on one thread, and touching more fresh pages
+/// The most reads that make a block: 4 MiB. Freeing a larger one at the end takes milliseconds on one thread, and touching more fresh pages
 /// costs more than reading anew into the same ones.
 const MOST_BLOCK_READS: usize = 64;
 
-/// Reads the next block, by so many reads, and whether it is the last. What was in the block is given up.
+/// Fills `block` by at most `reads` reads, in place of what it held; returns whether it is the last.
 fn read_block<S: Source>(
     source: &mut S,
     reads: usize,

@@ -7,7 +7,7 @@ ghost use Rattle.commands.specs.Edge.{one_more, Begins};
 #[derive(Clone, Copy, Debug, PartialEq, Eq, Drop)]
 pub struct Failed;
 
-/// A reader, by the bytes that it has left, where these are known, and its failed calls.
+/// A reader, by the bytes that it has left, if these are known, and its failed calls.
 pub trait Source {
     ghost left: { Self → Option (List ℕ) };
 
@@ -20,7 +20,7 @@ pub trait Source {
         ensures counted { OnErr result (failed self.new ≡ one_more (failed self.old)) };
 }
 
-/// A writer, by the bytes that it holds, where these are known, and its failed calls.
+/// A writer, by the bytes that it holds, if these are known, and its failed calls.
 pub trait Sink {
     ghost written: { Self → Option (List ℕ) };
 

@@ -61,7 +61,7 @@ fn explain_bundle(
     })
 }
 
-/// The answer to a bundle's bytes, with what explains it; or the fault of the bytes. The bundle is left to the end of the process.
+/// The answer to a bundle's bytes, with what explains it; or the fault of the bytes. The bundle is leaked: the end of the process frees it.
 fn explain_found(alloc: Global, order: Order, bytes: &[u8]) -> Result<Report, Fault>
     ensures { FindsExplained order bytes.now result }
 {
@@ -130,9 +130,9 @@ impl Reporter for ExplainedAudit {
     }
 }
 
-/// Reads a bundle, writes to the streams what `run_audit` writes, and nothing else, and to `errors` lines that explain it: where
-/// the input has what the verdict or the refusal names (`fault_places::explain_verdict`, `explain_refusal`). The text is kept until
-/// then. Where the verdict's line could not be written, nothing explains it.
+/// Reads a bundle, writes to the streams what `run_audit` writes, and nothing else, and to `errors` lines that explain it: where the input
+/// has what the verdict or the refusal names (`fault_places::explain_verdict`, `explain_refusal`). The text is kept until then. If the
+/// verdict's line could not be written, nothing explains it.
 pub fn run_explain<S: Source, W: Sink, E: Sink>(
     alloc: Global,
     order: Order,

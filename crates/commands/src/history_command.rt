@@ -48,7 +48,7 @@ fn history_text(alloc: Global, steps: &[Step]) -> Result<String, AllocError>
     Ok(text)
 }
 
-/// What a history results in, with its lines.
+/// The result of a history, with its lines.
 fn tell_worked(
     alloc: Global,
     order: Order,
@@ -103,7 +103,7 @@ fn tell_result(
     }
 }
 
-/// What a bundle results in, with the lines of a history.
+/// The result of a bundle, with the lines of a history.
 fn tell_bundle<R: Threads + Wait + Sync>(
     rt: &R,
     alloc: Global,
@@ -122,7 +122,7 @@ fn tell_bundle<R: Threads + Wait + Sync>(
     Ok(held?)
 }
 
-/// What a bundle's bytes result in, with the lines of a history; or the fault of the bytes.
+/// The result of a bundle's bytes, with the lines of a history; or the fault of the bytes.
 fn tell_found<R: Threads + Wait + Sync>(
     rt: &R,
     alloc: Global,
@@ -180,7 +180,7 @@ fn tell_bytes<R: Threads + Wait + Sync>(
     settle_told(alloc, tell_found(rt, alloc, order, workers, bytes))
 }
 
-/// A bundle is applied by so many workers, 1 to 64, and their history is told.
+/// The request to apply a bundle with this many workers, 1 to 64, and to tell their history.
 #[derive(Drop)]
 struct ToldApply<'a, R: Threads + Wait + Sync> {
     threads: &'a R,
@@ -201,8 +201,8 @@ impl<'a, R: Threads + Wait + Sync> Reporter for ToldApply<'a, R> {
 }
 
 /// Reads a bundle, writes to the streams what `apply_bundle` writes, and nothing else, and to `errors` the lines of the history by which
-/// workers that share a replica came to it: `<place> <seat> <event> -> <reply>`. Where the bytes are no bundle, and where the keys of its
-/// journals are not sound, there is no history. Where the answer could not be written, nothing is told.
+/// workers that share a replica came to it: `<place> <seat> <event> -> <reply>`. If the bytes are no bundle, or if the keys of its journals
+/// are not sound, there is no history. If the answer could not be written, nothing is told.
 pub fn apply_and_tell<S: Source, W: Sink, E: Sink, R: Threads + Wait + Sync>(
     rt: &R,
     alloc: Global,

@@ -31,7 +31,7 @@ fn import_found(alloc: Global, bundle: &Bundle) -> Result<Answer, RunFault>
     }
 }
 
-/// The text of a bundle, and what a verdict on it won't see. The bundle is left to the end of the process.
+/// The text of a bundle, and what a verdict on it won't see. The bundle is leaked: the end of the process frees it.
 fn report_imported(alloc: Global, imported: ImportedBundle) -> Result<Report, RunFault>
     ensures answer { IfOk result (λ held. Holds held.answer (upgrade_answer imported.bundle)) }
     ensures notes { IfOk result (λ held. held.notes.items ≡ imported.notes.items) }
@@ -46,7 +46,7 @@ fn report_imported(alloc: Global, imported: ImportedBundle) -> Result<Report, Ru
     })
 }
 
-/// The line of a refusal of a text, and, where that is asked for, what explains it.
+/// The line of a refusal of a text, and, if that is asked for, what explains it.
 fn report_refused(
     alloc: Global,
     is_explained: bool,
@@ -103,10 +103,10 @@ impl Reporter for Import {
     }
 }
 
-/// Reads a bundle whose journals are the texts of logs. Where it is imported, its text by version 2 of the format is written to the
-/// streams, and to `errors` a line for each thing that a verdict on it won't see, by what the operator grants. Where it is refused, nothing
-/// is written to the streams, and to `errors` the line of the refusal; where `is_explained`, also the line that it names, with the
-/// transaction, the end of the event and the file.
+/// Reads a bundle whose journals are the texts of logs. If it is imported, its text by version 2 of the format is written to the streams,
+/// and to `errors` a line for each thing that a verdict on it won't see, by what the operator grants. If it is refused, nothing is written
+/// to the streams, and to `errors` the line of the refusal; if `is_explained`, also the line that it names, with the transaction, the end
+/// of the event and the file.
 pub fn run_import<S: Source, W: Sink, E: Sink>(
     alloc: Global,
     grants: Grants,

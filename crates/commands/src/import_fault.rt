@@ -17,7 +17,7 @@ pub(crate) enum ImportCause {
     Line(EntryRefusal),
     /// The log ends before its last line.
     Unfinished,
-    /// A table, and a column of a key of it, counted from 0, that the server compares otherwise than by its bytes.
+    /// A table, and a column of one of its keys, counted from 0, that the server does not compare by its bytes.
     Key(Name, usize),
     /// The entry of this GTID passes a limit.
     TooLarge(Gtid, Limit),

@@ -81,7 +81,7 @@ fn put_set(alloc: Global, out: &mut Vec<u8>, set: &GtidSet) -> Result<(), AllocE
     put(out, text.as_str())
 }
 
-/// Appends what of an entry passes a limit.
+/// Appends which limit an entry passes.
 fn put_limit(out: &mut Vec<u8>, limit: &Limit) -> Result<(), AllocError>
     ensures { OnOk result (out.new.items ≡ out.old.items ++ limit_text limit.now) }
 {
@@ -201,7 +201,7 @@ fn put_explanation(out: &mut Vec<u8>, text: &[u8], line: Option<u64>) -> Result<
     }
 }
 
-/// The line of a refusal of a text, and, where that is asked for, what explains it.
+/// The line of a refusal of a text, and, if that is asked for, what explains it.
 pub(crate) fn refusal_notes(
     alloc: Global,
     is_explained: bool,

@@ -3,35 +3,35 @@
 //! `merge_decoded` and `apply_journals`, by threads.
 //!
 //! What a contract sees: of `Streams` the reader with the bytes that it has left and its failed calls (`Input`), and the writer with the
-//! bytes that it holds and its failed calls (`Output`), each where it is known.
+//! bytes that it holds and its failed calls (`Output`), each if known.
 //!
-//! Each command has two clauses. `done`: what was read is what the answer is for, and what was written is the answer and nothing else.
-//! `failed`: where memory was refused or a read failed nothing was written; where a write failed, a prefix of the answer. `run_states`, whose
-//! answer is written server by server, may have written a prefix of it where memory was refused (`HasStopped`).
+//! Each command has two clauses. `done`: the output is exactly the answer to the bytes that were read. `failed`: if out of memory, or if a
+//! read failed, nothing was written; if a write failed, a prefix of the answer. `run_states`, which writes its answer server by server, may
+//! have written a prefix of it if out of memory (`HasStopped`).
 //!
-//! `run_explain`, `run_import` and `apply_and_tell` take a second writer, for notes: after the answer has been written, `run_explain` writes
-//! what explains it, `apply_and_tell` the lines of the history, and `run_import` what a verdict on the bundle won't see, or, where the
-//! answer is empty, the line of the refusal (`HasReported`, `HasNotReported`).
-//! What is known at a refused line of a log is a fold over the lines before it (`place_at`).
+//! `run_explain`, `run_import` and `apply_and_tell` take a second writer, for notes: after the answer has been written, `run_explain`
+//! writes what explains it, `apply_and_tell` the lines of the history, and `run_import` what a verdict on the bundle won't see, or, if the
+//! answer is empty, the line of the refusal (`HasReported`, `HasNotReported`). What is known at a refused line of a log is a fold over the
+//! lines before it (`place_at`).
 //!
-//! The answer of `apply` and `audit` is a function of the bytes: where they are no bundle, the refusal that `decode_bundle` is proved to
-//! give; where they are one, the verdict, or, where that is Sound, the union of all journals with the rows that it denotes (`rows_of`);
-//! or E8 or E9, where a set that they need is full. So the merge theorem is about a call that the program makes.
+//! The answer of `apply` and `audit` is a function of the bytes: if they are no bundle, the refusal that `decode_bundle` is proved to give;
+//! if they are one, the verdict, or, for `apply`, if that is Sound, the union of all journals with the rows that it denotes (`rows_of`); or
+//! E8 or E9, if a set that they need is full. So the merge theorem is about a call that the program makes.
 //!
 //! Two bundles with equal tables, opening rows, opening sets and unions, whose transactions are equal under equal GTIDs, have one answer of
-//! `apply`, by whichever order, where that has rows (`equal_unions_equal_answers`).
+//! `apply`, by whichever order, if that has rows (`equal_unions_equal_answers`).
 //!
-//! `apply` has two ways with one answer (`comes` of both). `apply_decoded` is what a replica does: it opens, positions and serves a replica,
-//! and then so many workers share it, with a history that `apply_and_tell` shows; what they leave is drained. The proof uses the history
-//! alone: it is a run of takes, commits and rollbacks, and `conclude` of `serving` does the rest. Where the history cannot be closed, a
-//! replica is served anew on one thread. `apply_journals` gives back the history itself.
+//! `apply` has two ways with one answer (`comes` of both). `apply_decoded` is what a replica does: it opens, positions and serves a
+//! replica, and then the workers share it, with a history that `apply_and_tell` shows; what they leave is drained. The proof uses the
+//! history alone: it is a run of takes, commits and rollbacks, and `conclude` of `serving` does the rest. If the history cannot be closed,
+//! a replica is served anew on one thread. `apply_journals` gives back the history itself.
 //!
 //! `merge_decoded` is the fast way to that answer. It chooses by the number of workers and the order: one thread; threads that apply shares
-//! of the sources, and one thread where these share a key; or, where sources may share keys, a second thread that audits the keys beside the
-//! serving, which only read the bundle both.
+//! of the sources, or one thread if these share a key; or, if sources may share keys, one thread that serves and a second one that audits
+//! the keys, both of which only read the bundle.
 //!
-//! `apply_bundle`, `apply_and_tell` and the functions `run_` are a program's last call: what they read may be left to the end of the process, and
-//! not freed. `apply_decoded`, `merge_decoded` and `apply_journals` free what they made and don't give back.
+//! `apply_bundle`, `apply_and_tell` and the functions `run_` are a program's last call: what they read may be leaked on purpose, since the
+//! end of the process frees it at once. `apply_decoded`, `merge_decoded` and `apply_journals` free what they made and don't give back.
 //!
 //! Not proved: that workers do anything (what they leave is drained), and speed. A call that a signal interrupts is made again, up to
 //! 1,000 times.
@@ -45,7 +45,6 @@ mod blocks;
 mod bundle_reading;
 mod edge;
 mod explain_command;
-mod history;
 mod history_command;
 mod import_command;
 mod import_fault;
@@ -70,6 +69,7 @@ mod text;
 mod upgrade_command;
 mod version_command;
 mod whole;
+mod worker_history;
 mod wrap;
 
 pub use answer::Answer;

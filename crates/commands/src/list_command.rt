@@ -77,7 +77,7 @@ fn list_answer(alloc: Global, all: &AllFaults) -> Result<Answer, AllocError>
     })
 }
 
-/// All faults of a bundle are listed.
+/// The request to list all faults of a bundle.
 struct List;
 
 impl Request for List {
@@ -95,10 +95,10 @@ impl Request for List {
     }
 }
 
-/// Reads a bundle, and writes the line of its audit's verdict and after it one for each other GTID under which journals differ, each
-/// other journal that begins after the opening set, each other run of missing GTIDs, each other shared key, each other GTID that is
-/// in a journal without what it needs and, where a transaction does not apply by the verdict, each other source of which one does not,
-/// or the line of its refusal, and nothing else.
+/// Reads a bundle, and writes the line of its audit's verdict and after it one for each other GTID under which journals differ, each other
+/// journal that begins after the opening set, each other run of missing GTIDs, each other shared key, each other GTID that is in a journal
+/// without what it needs and, if by the verdict a transaction does not apply, each other source of which one does not, or the line of its
+/// refusal, and nothing else.
 pub fn run_list<S: Source, W: Sink>(
     alloc: Global,
     streams: &mut Streams<S, W>,

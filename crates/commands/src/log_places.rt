@@ -5,7 +5,7 @@ ghost use Rattle.binlog_text.specs.Lines.{begins, begins_with_digit};
 ghost use Rattle.binlog_text.specs.Tokens.{after_prefix};
 ghost use Rattle.commands.specs.LogPlaces.{place_of, before_text, after_text, is_head, gtid_in, end_log_pos_in, file_in, at_start, at_line, after_columns, after_line, first_line, place_at, known_text, place_text};
 
-use binlog_text::{Line, cut_at, read_line};
+use binlog_text::{LogLine, cut_at, read_line};
 use fault_places::{put, put_line, put_shown};
 use std::alloc::AllocError;
 
@@ -88,7 +88,7 @@ fn gtid_in(line: &[u8]) -> Option<&[u8]>
     ensures { option_map (λ x. x.now) result ≡ gtid_in (line_of line.now) }
 {
     match read_line(line) {
-        Some(Line::Gtid(gtid)) => Some(gtid),
+        Some(LogLine::Gtid(gtid)) => Some(gtid),
         _ => None,
     }
 }
@@ -172,12 +172,12 @@ impl<'a> LogPlace<'a> {
         ensures columns { result.columns ≤ self.now.columns + 1 }
     {
         match read_line(self.line) {
-            Some(Line::TableMap(_, table)) => LogPlace {
+            Some(LogLine::TableMap(_, table)) => LogPlace {
                 table: Some(table),
                 columns: 0,
                 ..*self
             },
-            Some(Line::Column(_)) => LogPlace {
+            Some(LogLine::Column(_)) => LogPlace {
                 columns: self.columns + 1,
                 ..*self
             },

@@ -1,4 +1,4 @@
-//! What a bundle results in by the fast way: seats share no replica, and where the sources share no key no replica is opened.
+//! The result of a bundle by the fast way: seats share no replica, and if the sources share no key no replica is opened.
 ghost use Rattle.std.specs.Prelude.{◌≡◌, ◌≤◌, IfOk, IfErr, IfSome};
 ghost use Rattle.serving.specs.Faults.{IsBundleFault};
 ghost use Rattle.serving.specs.declared.order.Order.TheVariants.{BySource};
@@ -48,7 +48,7 @@ fn listed_answer<R: Threads + Sync>(
     })
 }
 
-/// The lines of what journals together result in.
+/// The lines of the result of all journals together.
 fn parts_answer<R: Threads + Sync>(
     rt: &R,
     alloc: Global,
@@ -58,11 +58,10 @@ fn parts_answer<R: Threads + Sync>(
     ensures { IfOk result (λ answer. (whole : _) → AreParts opening.now.rows (rows_in_each merged.now.parts.items) whole → Holds answer (printed_state merged.now.executed whole)) }
 {
     let list = list_whole(rt, alloc, opening, &merged.parts)?;
-    let answer = listed_answer(rt, alloc, &merged.executed, &list)?;
-    Ok(answer)
+    listed_answer(rt, alloc, &merged.executed, &list)
 }
 
-/// The lines of what a bundle results in.
+/// The lines of a bundle's result.
 fn merged_answer(
     alloc: Global,
     order: Order,
@@ -95,7 +94,7 @@ pub(crate) struct KeptAnswer {
 }
 
 impl KeptAnswer {
-    /// The answer. What was made for it is left to the end of the process.
+    /// The answer. What was made for it is leaked on purpose: the end of the process frees it at once.
     pub(crate) fn leave(self) -> Answer
         ensures { result ≡ self.answer }
     {
@@ -114,7 +113,7 @@ impl KeptAnswer {
     }
 }
 
-/// An answer with what was served for it, which is freed where there is none.
+/// An answer with what was served for it, which is freed if there is no answer.
 fn hold(
     answer: Result<Answer, AllocError>,
     served: StateOrVerdict<Core>,
@@ -133,7 +132,7 @@ fn hold(
     }
 }
 
-/// What a bundle results in where one thread audits and applies it.
+/// Audits and applies a bundle on the calling thread.
 fn apply_alone(alloc: Global, bundle: &Bundle, order: Order) -> Result<KeptAnswer, Fault>
     ensures comes { IfOk result (λ held. Holds held.answer (apply_answer order bundle.now)) }
     ensures fault { IfErr result (GivesUp (IsBundleFault bundle.now)) }
@@ -143,7 +142,7 @@ fn apply_alone(alloc: Global, bundle: &Bundle, order: Order) -> Result<KeptAnswe
     Ok(hold(answer, merged)?)
 }
 
-/// What a bundle results in where one thread applies it, and another audits its keys meanwhile.
+/// Applies a bundle on the calling thread, while another audits its keys.
 fn apply_beside<R: Threads>(
     rt: &R,
     alloc: Global,
@@ -158,10 +157,10 @@ fn apply_beside<R: Threads>(
     Ok(hold(answer, merged)?)
 }
 
-/// How many shares of the sources are applied side by side at most: more don't pay on the machines that were measured.
+/// The most shares of the sources that are applied at the same time: more don't pay on the machines that were measured.
 const MOST_SHARES: usize = 4;
 
-/// What a bundle results in where threads apply shares of its sources, which share no key, and nothing where it can't be had so.
+/// Applies a bundle by threads, each a share of its sources, if these share no key; nothing if that can't be done.
 fn apply_by_shares<R: Threads + Sync>(
     rt: &R,
     alloc: Global,
@@ -191,8 +190,8 @@ fn apply_by_shares<R: Threads + Sync>(
     }
 }
 
-/// What a bundle results in with two workers and more: by shares of its sources, where these may share no key, or else by one thread; where
-/// they may share keys, beside the audit.
+/// Applies a bundle with two or more workers. By `BySource`: by shares of its sources, or else on one thread. By `ByConflict`: on one
+/// thread, while a second one audits the keys.
 fn apply_side_by_side<R: Threads + Sync>(
     rt: &R,
     alloc: Global,
@@ -213,7 +212,7 @@ fn apply_side_by_side<R: Threads + Sync>(
     apply_beside(rt, alloc, bundle, order)
 }
 
-/// What a bundle results in, with what was made for it: by one thread, or side by side.
+/// The result of a bundle, with what was made for it: by one thread, or by several at the same time.
 pub(crate) fn merge_held<R: Threads + Sync>(
     rt: &R,
     alloc: Global,
@@ -232,14 +231,12 @@ pub(crate) fn merge_held<R: Threads + Sync>(
     }
 }
 
-/// What a bundle results in, as `apply_decoded` has it, and faster. One
-/// worker is the calling thread. With more, threads apply shares of the sources, where these share no key and one pass over the
-/// journals shows it; by `ByConflict` a second thread audits the keys while the first serves the journals and applies what it receives.
-/// (No workers share a replica here, as those of `apply_decoded` do, and where the shares give nothing one thread goes on alone:
-/// more were slower wherever it was measured.)
-/// A refusal is `SourcesFull`, where the GTIDs of all journals together are of more than 65,536 sources, or
-/// `PoolFull`, where the intervals of the opening set and of the previous sets and the entries are together
-/// more than 4,294,967,294.
+/// The result of a bundle, the same as that of `apply_decoded`, and faster. One worker is the calling thread. With more, threads apply
+/// shares of the sources, if these share no key and one pass over the journals shows it; by `ByConflict` a second thread audits the keys
+/// while the first serves the journals and applies what it receives. (No workers share a replica here, as those of `apply_decoded` do, and
+/// if the shares give nothing one thread goes on alone: more were slower wherever it was measured.) A refusal is `SourcesFull`, if the
+/// GTIDs of all journals together are of more than 65,536 sources, or `PoolFull`, if the intervals of the opening set and of the previous
+/// sets and the entries are together more than 4,294,967,294.
 pub fn merge_decoded<R: Threads + Sync>(
     rt: &R,
     alloc: Global,

@@ -1,4 +1,4 @@
-//! What the journals of a bundle result in where workers apply them.
+//! The result of a bundle's journals when workers apply them.
 ghost use Rattle.std.specs.Prelude.{◌≤◌, IfOk, IfErr};
 ghost use Rattle.replica_core.specs.Draining.{AreStoppedOrDone};
 ghost use Rattle.applier.specs.Draining.{AllApply, Drains};
@@ -9,8 +9,8 @@ ghost use Rattle.serving.specs.Serving.{IsReady};
 ghost use Rattle.serving.specs.Verdicts.{IsConcluded, IsStateOrVerdict, IsVerdictOfKeys};
 ghost use Rattle.commands.specs.Applying.{HasMergedIn, IsHistory, IsWorked};
 
-use crate::history::run_history;
 use crate::side_by_side::begin_beside;
+use crate::worker_history::run_history;
 use applier::{Gate, drain};
 use gtid_set::SetFault;
 use serving::{Order, StateOrVerdict, begin, conclude};
@@ -21,15 +21,15 @@ use std::thread::Threads;
 use txn_journal::Bundle;
 use world::Verdict;
 
-/// What workers did to the replica of a bundle: their history, and the verdict of the audit, where not everything is executed.
+/// What workers did to the replica of a bundle: their history, and the verdict of the audit, if not everything is executed.
 #[derive(Drop)]
 pub(crate) struct Worked {
     pub(crate) book: ClosedBook,
     pub(crate) verdict: Option<Verdict>,
 }
 
-/// What a history of work over a replica that was served all journals results in, once what it left is
-/// drained: nothing where all is executed, or else the verdict of the audit.
+/// The result of a history of work over a replica that was served all journals, once what it left is drained: nothing if all is executed,
+/// or else the verdict of the audit.
 fn drain_and_conclude(
     alloc: Global,
     bundle: &Bundle,
@@ -48,7 +48,7 @@ fn drain_and_conclude(
     Ok(conclude(alloc, bundle, order, core)?)
 }
 
-/// What a history of work over a replica that was served all journals results in.
+/// The result of a history of work over a replica that was served all journals.
 fn conclude_history(
     alloc: Global,
     bundle: &Bundle,
@@ -70,8 +70,7 @@ fn conclude_history(
     }
 }
 
-/// What the journals result in where no worker's history is known: a replica that is opened anew is
-/// drained.
+/// The result of the journals if no worker's history is known: a replica that is opened anew is drained.
 fn drain_anew(
     alloc: Global,
     bundle: &Bundle,
@@ -114,7 +113,7 @@ pub(crate) fn work_journals<G: Gate + Sync, R: Threads + Wait + Sync>(
     }
 }
 
-/// The history, where all is executed, or else the verdict.
+/// The history, if all is executed, or else the verdict.
 fn book_or_verdict(worked: Worked) -> StateOrVerdict<ClosedBook>
     ensures { (order : Order) (b : BundleValue) → IsConcluded order b worked.book.now worked.verdict
         → IsStateOrVerdict (HasMergedIn order b) order b result }
@@ -129,16 +128,14 @@ fn book_or_verdict(worked: Worked) -> StateOrVerdict<ClosedBook>
     }
 }
 
-/// What the journals of a bundle result in over its opening rows: all of them executed together, or the
-/// verdict of the audit that asks for this order, where that is not Sound. One thread audits their keys while another receives them.
-/// Then so many workers apply them, each on a thread of its own where one can be started; what they leave is
-/// applied when they have ended. The answer
-/// does not depend on their number, nor on the order of their steps.
+/// The result of a bundle's journals over its opening rows: all of them executed together, or the verdict of the audit that asks for this
+/// order, if that is not Sound. One thread audits their keys while another receives them. Then the workers apply them, each on a thread of
+/// its own if one can be started; what they leave is applied when they have ended. The answer does not depend on their number, nor on the
+/// order of their steps.
 ///
-/// `Memory` is a failed allocation, `SourcesFull` comes only where the GTIDs of all journals together are of
-/// more than 65,536 sources, and `PoolFull` only where the intervals of the opening set and of the
-/// previous sets and the entries are together more than 4,294,967,294. A worker's fault is never the
-/// answer.
+/// `Memory` is a failed allocation, `SourcesFull` comes only if the GTIDs of all journals together are of more than 65,536 sources, and
+/// `PoolFull` only if the intervals of the opening set and of the previous sets and the entries are together more than 4,294,967,294. A
+/// worker's fault is never the answer.
 pub fn apply_journals<G: Gate + Sync, R: Threads + Wait + Sync>(
     rt: &R,
     alloc: Global,

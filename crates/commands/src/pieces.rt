@@ -31,7 +31,7 @@ impl Model for Text {
     ghost view = { λ t. string_bytes t.first ++ flat_map string_bytes t.others.items };
 }
 
-/// Moves pieces behind others. An error leaves these as they were.
+/// Moves pieces to the end of others. An error leaves these as they were.
 fn move_behind(
     pieces: &mut Vec<String>,
     first: String,
@@ -62,7 +62,7 @@ fn write_pieces<W: Sink>(writer: &mut W, pieces: &[String]) -> Result<(), Failed
     Ok(())
 }
 
-/// Writes a piece and others behind it, or a prefix of them.
+/// Writes a piece and then others, or a prefix of them.
 fn write_behind<W: Sink>(writer: &mut W, first: &str, others: &[String]) -> Result<(), Failed>
     ensures ok { OnOk result (Appends (W.written writer.old) (W.written writer.new) (first.now ++ flat_map string_bytes others.now)) }
     ensures begins { OnErr result (Begins (W.written writer.old) (W.written writer.new) (first.now ++ flat_map string_bytes others.now)) }
@@ -86,7 +86,7 @@ impl Text {
         }
     }
 
-    /// Puts a text behind this one. Its pieces are moved, and no byte is copied. An error leaves this one as it was.
+    /// Appends a text to this one. Its pieces are moved, and no byte is copied. An error leaves this one as it was.
     pub(crate) fn append(&mut self, behind: Text) -> Result<(), AllocError>
         ensures ok { OnOk result (self.new ≡ self.old ++ behind) }
         ensures err { OnErr result (self.new ≡ self.old) }

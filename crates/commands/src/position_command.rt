@@ -20,22 +20,22 @@ use journal::{Entry, Journal};
 use serving::entries_sent;
 use std::alloc::{AllocError, Global};
 
-/// What a replica asks a source with.
+/// The set with which a replica asks a source.
 #[derive(Drop)]
-struct Asked {
+struct ReplicaAsk {
     /// The source's own UUID.
     source: SourceId,
-    /// The set that the replica asks with.
+    /// The set with which the replica asks.
     gtids: GtidSet,
 }
 
 /// What the words name.
-fn asked_of(alloc: Global, own: &str, ask: &str) -> Result<Asked, Fault>
+fn asked_of(alloc: Global, own: &str, ask: &str) -> Result<ReplicaAsk, Fault>
     ensures { words.Answers (λ x. (x.source, x.gtids)) result (asking_in own.now ask.now) }
 {
     match read_source(own) {
         Ok(source) => match read_set(alloc, ask) {
-            Ok(gtids) => Ok(Asked { source, gtids }),
+            Ok(gtids) => Ok(ReplicaAsk { source, gtids }),
             Err(fault) => Err(fault),
         },
         Err(fault) => Err(fault),
@@ -63,7 +63,7 @@ fn purged_answer(alloc: Global, gtids: &GtidSet) -> Result<Answer, AllocError>
     })
 }
 
-/// The line of what the replica has of the source's own, and the source has no record of.
+/// The line of the source's own GTIDs that the replica has and the source has no record of.
 fn more_answer(alloc: Global, gtids: &GtidSet) -> Result<Answer, AllocError>
     ensures { IfOk result (λ answer. Holds answer (printed_sending (Err (PositionFault.ReplicaHasMore gtids.now)))) }
 {
@@ -74,7 +74,7 @@ fn more_answer(alloc: Global, gtids: &GtidSet) -> Result<Answer, AllocError>
     })
 }
 
-impl Request for Asked {
+impl Request for ReplicaAsk {
     type Value = Journal;
 
     ghost answers = { λ asked j. position_answer (asked.source, asked.gtids) j };
@@ -106,9 +106,9 @@ fn refuse<S: Source, W: Sink>(
     streams.send(&answer)
 }
 
-/// Reads a journal, and writes what its source, with this UUID, sends to a replica that asks with this set: how many
-/// entries, and their GTIDs in journal order; or the line of the refusal. Nothing else is written. Where a word is bad,
-/// its refusal is written and nothing is read; a bad UUID is named first.
+/// Reads a journal, and writes what its source, with this UUID, sends to a replica that asks with this set: how many entries, and their
+/// GTIDs in journal order; or the line of the refusal. Nothing else is written. If a word is bad, its refusal is written and nothing is
+/// read; a bad UUID is named first.
 pub fn run_position<S: Source, W: Sink>(
     alloc: Global,
     own: &str,

@@ -13,8 +13,8 @@ use std::thread::{Threads, join};
 /// Fewer rows are printed by one thread.
 const LEAST_ROWS: usize = 8_192;
 
-/// A text, and behind it the line of each row, in the order of the list. So many halves of halves of the list are printed by threads of
-/// their own, where they can be started. What each prints is a piece of its own.
+/// A text, and after it the line of each row, in the order of the list. The list is split in two `halvings` times, and each half is printed
+/// on a thread of its own if one can be started. What each prints is a piece of its own.
 pub(crate) fn render_beside<R: Threads + Sync>(
     rt: &R,
     alloc: Global,

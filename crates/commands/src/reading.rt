@@ -8,8 +8,8 @@ use crate::text::Text;
 use std::alloc::Global;
 use txn_journal::JournalFault;
 
-/// A reader that has not ended after so many calls has failed (our own rule). Where blocks are read (`read_beside`), it is after so many
-/// blocks, each of up to 64 calls.
+/// A reader that has not ended after this many calls has failed (our own rule). If blocks are read (`read_beside`), it has failed after
+/// this many blocks, each of up to 64 calls.
 pub(crate) const MOST_READS: u64 = 1_099_511_627_776;
 
 /// What all bytes that a reader gives parse as. They are read in pieces of at most 65,536.

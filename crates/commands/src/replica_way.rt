@@ -1,4 +1,4 @@
-//! What a bundle results in where workers share a replica.
+//! The result of a bundle when workers share a replica.
 ghost use Rattle.std.specs.Prelude.{◌≡◌, ◌≤◌, IfOk, IfErr};
 ghost use Rattle.serving.specs.Faults.{IsBundleFault};
 ghost use Rattle.serving.specs.Verdicts.{IsConcluded, IsStateOrVerdict};
@@ -17,7 +17,7 @@ use std::sync::Wait;
 use std::thread::Threads;
 use txn_journal::Bundle;
 
-/// The lines of what a history results in.
+/// The lines of a history's result.
 pub(crate) fn worked_answer(
     alloc: Global,
     order: Order,
@@ -49,13 +49,11 @@ fn found_answer(
     }
 }
 
-/// What a bundle results in: the same for every number of workers and every order of their steps. A replica is opened, and each of its
+/// The result of a bundle: the same for every number of workers and every order of their steps. A replica is opened, and each of its
 /// channels is positioned and receives what auto-positioning sends, while another thread audits the keys; nothing is applied before the
-/// workers start. So many workers then share the replica and pass the gate, each on a thread of its own where one can be started, and what
-/// they leave is drained.
-/// A refusal is `SourcesFull`, where the GTIDs of all journals together are of more than 65,536 sources, or
-/// `PoolFull`, where the intervals of the opening set and of the previous sets and the entries are together
-/// more than 4,294,967,294.
+/// workers start. The workers then share the replica and pass the gate, each on a thread of its own if one can be started, and what they
+/// leave is drained. A refusal is `SourcesFull`, if the GTIDs of all journals together are of more than 65,536 sources, or `PoolFull`, if
+/// the intervals of the opening set and of the previous sets and the entries are together more than 4,294,967,294.
 pub fn apply_decoded<G: Gate + Sync, R: Threads + Wait + Sync>(
     rt: &R,
     alloc: Global,

@@ -34,8 +34,7 @@ pub(crate) trait Request {
         ensures fault { IfErr result (GivesUp (may_fail self.now value.now)) };
 }
 
-/// The answer to what the bytes parse as. A value is left to the end of the process, which frees it
-/// at once and not piece by piece.
+/// The answer to what the bytes parse as. A value is leaked on purpose: the end of the process frees it at once and not piece by piece.
 fn find<Q: Request>(
     alloc: Global,
     request: &Q,

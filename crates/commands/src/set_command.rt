@@ -56,14 +56,14 @@ fn is_given_input(word: Option<&str>) -> bool
     }
 }
 
-/// A word, or what was read, where the word denotes that.
+/// A word, or what was read if the word denotes that.
 fn word_or<'a>(input: &'a str, word: &'a str) -> &'a str
     ensures { result.now ≡ word_or input.now word.now }
 {
     if is_input(word) { input } else { word }
 }
 
-/// What is printed for a function of sets, where a word may denote this input.
+/// What is printed for a function of sets, one of whose words may denote this input.
 fn answer_over(
     alloc: Global,
     function: &str,
@@ -129,9 +129,9 @@ fn run_at_once<S: Source, W: Sink>(
     streams.send(&answer)
 }
 
-/// Writes the line of a function of sets, or that of its refusal, and nothing else. A word `-` is all
-/// of standard input (our own rule), of which nothing is read where there is no such word; bytes of
-/// it that are no UTF-8 are read as U+FFFD, which the grammar refuses at its place.
+/// Writes the line of a function of sets, or that of its refusal, and nothing else. A word `-` is all of standard input (our own rule), of
+/// which nothing is read if there is no such word; bytes of it that are no UTF-8 are read as U+FFFD, which the grammar refuses at its
+/// place.
 pub fn run_set<S: Source, W: Sink>(
     alloc: Global,
     function: &str,

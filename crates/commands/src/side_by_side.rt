@@ -1,4 +1,4 @@
-//! The audit of the keys beside the serving of the journals.
+//! The audit of the keys and the serving of the journals, at the same time.
 ghost use Rattle.std.specs.Prelude.{IfOk, IfErr};
 ghost use Rattle.serving.specs.Faults.{IsBundleFault};
 ghost use Rattle.serving.specs.Serving.{IsReady};
@@ -14,9 +14,8 @@ use std::alloc::Global;
 use std::thread::{Threads, join};
 use txn_journal::Bundle;
 
-/// What `begin` gives. A second thread, where one can be started, audits the keys while this one lets the
-/// channels receive: both only read the bundle. Where what was purged of a journal is missing in the
-/// opening set its source sends nothing, and the audit alone is made.
+/// What `begin` gives. A second thread, if one can be started, audits the keys while this one lets the channels receive: both only read the
+/// bundle. If what was purged of a journal is missing in the opening set, its source sends nothing, and only the audit is made.
 pub(crate) fn begin_beside<R: Threads>(
     rt: &R,
     alloc: Global,
@@ -48,9 +47,8 @@ pub(crate) fn begin_beside<R: Threads>(
     }
 }
 
-/// What `serve` gives. A second thread, where one can be started, audits the keys while this one serves the
-/// journals and applies each entry as it is received. What is applied of journals whose keys are not sound
-/// is thrown away, for the verdict.
+/// What `serve` gives. A second thread, if one can be started, audits the keys while this one serves the journals and applies each entry on
+/// receipt. If the keys of the journals are not sound, what was applied is dropped, and the result is the verdict.
 pub(crate) fn serve_beside<R: Threads>(
     rt: &R,
     alloc: Global,

@@ -118,7 +118,7 @@ fn write_states<S: Source, W: Sink>(
 
 /// Reads a line for each server, `<name> <uuid> <set>`, and writes the union of the sets, and for each server what it lacks of that, its
 /// gaps, and what it alone has; or the line of the refusal. Nothing else is written. The lines are written server by server, once it is
-/// known that each can be made, so a refusal of memory may come behind some of them.
+/// known that each can be made, so memory may run out after some of them.
 pub fn run_states<S: Source, W: Sink>(
     alloc: Global,
     streams: &mut Streams<S, W>,

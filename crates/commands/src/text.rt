@@ -73,7 +73,7 @@ impl Text for Bundle {
     }
 }
 
-/// The bundle that was read, or what is wrong with its text: then what was read is left to the end of the process.
+/// The bundle that was read, or what is wrong with its text: then what was read is leaked, and the end of the process frees it.
 fn finish_or_leave(reader: BundleReader) -> Result<Bundle, JournalFault>
     ensures { result ≡ closing_bundle (bundle_reading reader) }
 {

@@ -13,7 +13,7 @@ use gtid_report::Fault;
 use std::alloc::Global;
 use txn_journal::bundle_text_v2;
 
-/// A bundle of version 1 is written by version 2.
+/// The request to write a bundle of version 1 by version 2.
 struct Upgrade;
 
 impl Request for Upgrade {

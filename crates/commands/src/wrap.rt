@@ -7,10 +7,10 @@ ghost use Rattle.commands.specs.Edge.{one_more, Begins};
 use crate::edge::{Failed, Sink, Source};
 use std::io::{ErrorKind, Read, Write};
 
-/// How often a read, a write or a flush is tried that is interrupted each time (our own rule).
+/// How often a read, a write or a flush is tried if it is interrupted each time (our own rule).
 const TRIES: u32 = 1_000;
 
-/// Reads once, and again where the read was interrupted.
+/// Reads once, and again if the read was interrupted.
 fn read_again<R: Read>(reader: &mut R, buffer: &mut [u8]) -> Result<usize, Failed>
     ensures bound { IfOk result (λ n. n ≤ length buffer.new) }
     ensures bytes { ReadConsumes (R.remaining reader.old) (R.remaining reader.new) result buffer.new }
@@ -25,7 +25,7 @@ fn read_again<R: Read>(reader: &mut R, buffer: &mut [u8]) -> Result<usize, Faile
     Err(Failed)
 }
 
-/// Writes once, and again where the write was interrupted.
+/// Writes once, and again if the write was interrupted.
 fn write_again<W: Write>(writer: &mut W, bytes: &[u8]) -> Result<usize, Failed>
     ensures bound { IfOk result (λ n. n ≤ length bytes.now) }
     ensures bytes { WriteAppends (W.contents writer.old) (W.contents writer.new) result bytes.now }
@@ -40,7 +40,7 @@ fn write_again<W: Write>(writer: &mut W, bytes: &[u8]) -> Result<usize, Failed>
     Err(Failed)
 }
 
-/// Flushes once, and again where the flush was interrupted.
+/// Flushes once, and again if the flush was interrupted.
 fn flush_again<W: Write>(writer: &mut W) -> Result<(), Failed>
     ensures { Keeps (W.contents writer.old) (W.contents writer.new) }
 {

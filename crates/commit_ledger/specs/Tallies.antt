@@ -21,7 +21,7 @@ one_if false = 0
 abbrev pub no_tally : Tally
 no_tally = record { steps = 0; commits = 0 }
 
--- so many seats, which have counted nothing
+-- this many seats, which have counted nothing
 abbrev pub empty_portion : ℕ → Portion
 empty_portion seats = record { seats = seats; steps = 0; commits = 0 }
 

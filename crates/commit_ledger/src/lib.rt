@@ -5,7 +5,7 @@
 //!
 //! What a contract sees: a `Total` is the number of steps and of commits; a `Share` is a number of seats with what was counted for them.
 //!
-//! `count` adds one step to the total and to the share, and a commit to both exactly where it was one. What a share of all seats has
+//! `count` adds one step to the total and to the share, and a commit to both if and only if it was one. What a share of all seats has
 //! counted, or the shares of all seats together, is the total (`Total::audit`, `gather`).
 //!
 //! Not proved: that a share is not lost; a total whose shares are not all there cannot be gathered.

@@ -11,7 +11,7 @@ use Rattle.rows.specs.WriteSet.{is_among}
 use Rattle.dependency_graph.specs.Graphs.{Awaiting, Point, gone, point_at, is_open_at, unfinished}
 use Rattle.dependency_graph.specs.Chains.{Holds, HasEntry, HasLast, HasRoom, KeepsRoom, Pushes, IsSame, IsAscending, ends_at, with_chain, with_node, first_number}
 use Rattle.dependency_graph.specs.Kept.{points, point_of, is_below, waiting, is_finished_at, Has, StartsOpen, IsChained, IsKept, IsBelow, LinksAll, CountsAll, awaiting_of, keys_at}
-use Rattle.dependency_graph.specs.declared.graph.Node.{Node}
+use Rattle.dependency_graph.specs.declared.graph.GraphNode.{GraphNode}
 use Rattle.dependency_graph.specs.declared.chains.Chains.{Chains}
 use Rattle.dependency_graph.proofs.Entries.{flip, all_stay}
 use Rattle.dependency_graph.proofs.Linked.{push_holds, same_holds, has_last, had_one_is, holds_alike, rising_push, all_both}
@@ -19,7 +19,7 @@ use Rattle.dependency_graph.proofs.Chained.{waiting_same}
 use Rattle.dependency_graph.proofs.Popping.{open_parts, open_made}
 use Rattle.dependency_graph.proofs.Kept.{length_points}
 use mathlib.Core.Bool.{or-false}
-use Rattle.rows.proofs.Lists.{all_push}
+use Rattle.lemmas.proofs.Lists.{all_push}
 
 -- ---- one key more
 all_at : (P : Key → Type 0) (ks : List Key) (i : ℕ) (k : Key) → AllByRecursion P ks → i < length ks → k ≡ slice_index_or ks i k → P k
@@ -119,10 +119,10 @@ room_here c ks i k lt at room =
     }
 
 -- ---- the node
-pub points_push : (d : ℕ) (nodes : List Node) (x : Node) → points d (nodes ++ x ∷ []) ≡ points d nodes ++ point_of x ∷ []
+pub points_push : (d : ℕ) (nodes : List GraphNode) (x : GraphNode) → points d (nodes ++ x ∷ []) ≡ points d nodes ++ point_of x ∷ []
 points_push d nodes x = ap (λ qs. replicate d gone ++ qs) (map-append point_of nodes (x ∷ [])) ∙ sym (append_assoc (replicate d gone) (map point_of nodes) (point_of x ∷ []))
 
-pub set_last : (nodes : List Node) (x y : Node) (at : ℕ) → at ≡ length nodes → slice_set (nodes ++ x ∷ []) at y ≡ nodes ++ y ∷ []
+pub set_last : (nodes : List GraphNode) (x y : GraphNode) (at : ℕ) → at ≡ length nodes → slice_set (nodes ++ x ∷ []) at y ≡ nodes ++ y ∷ []
 set_last [] x y zero e = refl
 set_last [] x y (suc at) e = absurd (omega (e, arith))
 set_last (n ∷ nodes) x y zero e = absurd (omega (e, arith))
@@ -146,9 +146,9 @@ no_later n m (x ∷ ns) true le = refl
 no_later n m ns false le = refl
 
 -- a node more, in each of the chains of its keys
-module _ (d : ℕ) (nodes : List Node) (c new : Chains) (kept : IsKept d nodes c []) (keys : List Key) (n : ℕ) (n_is : n ≡ d + length nodes) (few : n < 4294967294)
+module _ (d : ℕ) (nodes : List GraphNode) (c new : Chains) (kept : IsKept d nodes c []) (keys : List Key) (n : ℕ) (n_is : n ≡ d + length nodes) (few : n < 4294967294)
     (distinct : IsDistinct key_eq keys) (links : LinksAll c new keys n) (waits : ℕ) (counts : CountsAll c keys n waits)
-    (x : Node) (open_one : x.finished ≡ false) (waits_is : x.waits ≡ waits) (keys_are : x.keys.items ≡ keys) where
+    (x : GraphNode) (open_one : x.finished ≡ false) (waits_is : x.waits ≡ waits) (keys_are : x.keys.items ≡ keys) where
   abbrev ps : List Point
   ps = points d nodes
 
@@ -232,7 +232,7 @@ module _ (d : ℕ) (nodes : List Node) (c new : Chains) (kept : IsKept d nodes c
     starts = λ k. starts_by (kept.chain k) (below k) (kept.chained.starts k) (is_among keys k);
   }
 
-  old_or_new : (i : ℕ) (y : Node) → i < length (nodes ++ x ∷ []) → y ≡ slice_index_or (nodes ++ x ∷ []) i y → ((i < length nodes) × (y ≡ slice_index_or nodes i y)) ⊎ ((i ≡ length nodes) × (y ≡ x))
+  old_or_new : (i : ℕ) (y : GraphNode) → i < length (nodes ++ x ∷ []) → y ≡ slice_index_or (nodes ++ x ∷ []) i y → ((i < length nodes) × (y ≡ slice_index_or nodes i y)) ⊎ ((i ≡ length nodes) × (y ≡ x))
   old_or_new i y lt at =
       ⊎_elim (λ less. inl (less, at ∙ get_or_append_left nodes (x ∷ []) y i less))
       (λ le. let more = length_push nodes x in let same : i ≡ length nodes = omega (le, more, lt, arith) in inr (same, at ∙ get_or_push nodes x y i (sym same))) (cases_lt i (length nodes))
@@ -246,21 +246,21 @@ module _ (d : ℕ) (nodes : List Node) (c new : Chains) (kept : IsKept d nodes c
     holds = links kept.chain kept.holds below;
     small = let more = length_push nodes x in let is = n_is in omega (more, is, few, arith);
     distinct = λ i y lt at.
-        ⊎_elim (λ old. kept.distinct i y old.0 old.1) (λ last. subst (λ (z : Node). IsDistinct key_eq z.keys.items) (sym last.1) (subst (IsDistinct key_eq) (sym keys_are) distinct)) (old_or_new i y lt at);
+        ⊎_elim (λ old. kept.distinct i y old.0 old.1) (λ last. subst (λ (z : GraphNode). IsDistinct key_eq z.keys.items) (sym last.1) (subst (IsDistinct key_eq) (sym keys_are) distinct)) (old_or_new i y lt at);
     chained = subst (λ rs. IsChained rs (with_node kept.chain keys n) []) (sym (points_push d nodes x)) chained_added;
     counted = λ i y lt at unfinished_one.
         ⊎_elim (λ old. kept.counted i y old.0 old.1 unfinished_one ∙ counts_same (d + i) (let is = n_is in let less = old.0 in omega (is, less, arith)) y.keys.items)
         (λ last.
         let itself : n ≤ n = omega arith in
         let here : n ≡ d + i = let is = n_is in let same = last.0 in omega (is, same, arith) in
-        subst (λ (z : Node). z.waits ≡ waiting (λ k. first_number (with_node kept.chain keys n k)) (d + i) z.keys.items) (sym last.1)
+        subst (λ (z : GraphNode). z.waits ≡ waiting (λ k. first_number (with_node kept.chain keys n k)) (d + i) z.keys.items) (sym last.1)
         (waits_is ∙ counts kept.chain kept.holds below ∙ counts_same n itself keys
         ∙ ap (waiting (λ k. first_number (with_node kept.chain keys n k)) n) (sym keys_are)
         ∙ ap (λ m. waiting (λ k. first_number (with_node kept.chain keys n k)) m x.keys.items) here))
         (old_or_new i y lt at);
   }
 
-pub kept_reserved : (d : ℕ) (nodes : List Node) (c new : Chains) → IsSame c new → IsKept d nodes c [] → IsKept d nodes new []
+pub kept_reserved : (d : ℕ) (nodes : List GraphNode) (c new : Chains) → IsSame c new → IsKept d nodes c [] → IsKept d nodes new []
 kept_reserved d nodes c new same kept = record {
   chain = kept.chain;
   holds = same_holds c new same kept.chain kept.holds;
@@ -270,12 +270,12 @@ kept_reserved d nodes c new same kept = record {
   counted = kept.counted;
 }
 
-pub read_last : (nodes now : List Node) (x y : Node) (at : ℕ) → at ≡ length nodes → now ≡ nodes ++ x ∷ [] → y ≡ slice_index_or now at y → y ≡ x
+pub read_last : (nodes now : List GraphNode) (x y : GraphNode) (at : ℕ) → at ≡ length nodes → now ≡ nodes ++ x ∷ [] → y ≡ slice_index_or now at y → y ≡ x
 read_last nodes now x y at at_is now_is read = read ∙ ap (λ ns. slice_index_or ns at y) now_is ∙ get_or_push nodes x y at (sym at_is)
 
-module _ (d : ℕ) (nodes now : List Node) (x y : Node) (at : ℕ) (keys : List Key) (waits : ℕ) (at_is : at ≡ length nodes) (now_is : now ≡ nodes ++ x ∷ [])
+module _ (d : ℕ) (nodes now : List GraphNode) (x y : GraphNode) (at : ℕ) (keys : List Key) (waits : ℕ) (at_is : at ≡ length nodes) (now_is : now ≡ nodes ++ x ∷ [])
     (read : y ≡ slice_index_or now at y) (open_one : x.finished ≡ false) (keys_are : x.keys.items ≡ keys) where
-  abbrev counting : Node
+  abbrev counting : GraphNode
   counting = record y { waits = waits }
 
   pushed_here : y ≡ x
@@ -285,10 +285,10 @@ module _ (d : ℕ) (nodes now : List Node) (x y : Node) (at : ℕ) (keys : List 
   set_now = ap (λ ns. slice_set ns at counting) now_is ∙ set_last nodes x counting at at_is
 
   open_now : y.finished ≡ false
-  open_now = ap (λ (n : Node). n.finished) pushed_here ∙ open_one
+  open_now = ap (λ (n : GraphNode). n.finished) pushed_here ∙ open_one
 
   keys_now : y.keys.items ≡ keys
-  keys_now = ap (λ (n : Node). n.keys.items) pushed_here ∙ keys_are
+  keys_now = ap (λ (n : GraphNode). n.keys.items) pushed_here ∙ keys_are
 
   pub kept_pushed : (mid new : Chains) → IsKept d nodes mid [] → d + at < 4294967294 → IsDistinct key_eq keys → LinksAll mid new keys (d + at) → CountsAll mid keys (d + at) waits → IsKept d (slice_set now at counting) new []
   kept_pushed mid new kept few distinct links counts =
@@ -302,18 +302,18 @@ module _ (d : ℕ) (nodes now : List Node) (x y : Node) (at : ℕ) (keys : List 
       ∙ ap (λ ks. points d nodes ++ (unfinished ks) ∷ []) keys_now
 
 -- ---- a node that is still to come
-take_front : (nodes : List Node) (x : Node) → take (length nodes) (nodes ++ x ∷ []) ≡ nodes
+take_front : (nodes : List GraphNode) (x : GraphNode) → take (length nodes) (nodes ++ x ∷ []) ≡ nodes
 take_front [] x = refl
 take_front (n ∷ nodes) x = ap (λ ns. n ∷ ns) (take_front nodes x)
 
-keys_last : (nodes : List Node) (x : Node) → keys_at (nodes ++ x ∷ []) (length nodes) ≡ x.keys.items
+keys_last : (nodes : List GraphNode) (x : GraphNode) → keys_at (nodes ++ x ∷ []) (length nodes) ≡ x.keys.items
 keys_last [] x = refl
 keys_last (n ∷ nodes) x = keys_last nodes x
 
 made : List Point → List Key → Awaiting
 made ps ks = record { nodes = ps; keys = ks }
 
-pub awaiting_is : (d : ℕ) (nodes old : List Node) (x : Node) → nodes ≡ old ++ x ∷ [] → awaiting_of d nodes ≡ record { nodes = points d old; keys = x.keys.items }
+pub awaiting_is : (d : ℕ) (nodes old : List GraphNode) (x : GraphNode) → nodes ≡ old ++ x ∷ [] → awaiting_of d nodes ≡ record { nodes = points d old; keys = x.keys.items }
 unfolding made
 awaiting_is d nodes old x is =
     let more = length_push old x in

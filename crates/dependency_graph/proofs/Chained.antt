@@ -6,7 +6,7 @@ use Rattle.rows.specs.declared.change.Key.{Key}
 use Rattle.dependency_graph.specs.Graphs.{Point, point_at, least, is_open_at}
 use Rattle.dependency_graph.specs.Chains.{IsAscending, first_number, first_of}
 use Rattle.dependency_graph.specs.Kept.{points, is_below, waiting, is_finished_at, Has, StartsOpen, IsSound, IsKept}
-use Rattle.dependency_graph.specs.declared.graph.Node.{Node}
+use Rattle.dependency_graph.specs.declared.graph.GraphNode.{GraphNode}
 use Rattle.dependency_graph.specs.declared.chains.Chains.{Chains}
 use Rattle.dependency_graph.proofs.Linked.{first_is}
 
@@ -53,7 +53,7 @@ pub waiting_same : (f g : Key → Option ℕ) (n : ℕ) → ((k : Key) → is_be
 waiting_same f g n h [] = refl
 waiting_same f g n h (k ∷ ks) = ap (λ b. cond b 1 0 + waiting f n ks) (h k) ∙ ap (λ w. cond (is_below n (g k)) 1 0 + w) (waiting_same f g n h ks)
 
-pub kept_is_sound : (before : ℕ) (nodes : List Node) (c : Chains) → IsKept before nodes c [] → IsSound before nodes c
+pub kept_is_sound : (before : ℕ) (nodes : List GraphNode) (c : Chains) → IsKept before nodes c [] → IsSound before nodes c
 kept_is_sound before nodes c kept = record {
   small = kept.small;
   front = λ k. first_is c kept.chain kept.holds k

@@ -3,6 +3,7 @@ use Rattle.std.proofs.Common.{◌≡◌, ℕ, ◌+◌, ◌<◌, Bool, true, fals
 use Rattle.std.specs.Option.{option_map, option_map_or, option_and_then}
 use Rattle.std.specs.List.{AllByRecursion}
 use Rattle.std.proofs.lemmas.List.{map-append}
+use Rattle.lemmas.proofs.Lists.{all_push}
 use Rattle.rows.specs.declared.change.Key.{Key}
 use Rattle.rows.specs.Order.{key_eq}
 use Rattle.rows.specs.Total.{key_eq_same, key_eq_self}
@@ -11,7 +12,6 @@ use Rattle.slab.specs.Slab as slots
 use Rattle.dependency_graph.specs.declared.chains.Chains.{Chains}
 use Rattle.dependency_graph.specs.declared.chains.Edge.{Edge}
 use Rattle.dependency_graph.specs.declared.chains.Ends.{Ends}
-use Rattle.rows.proofs.Lists.{all_push}
 
 -- edges changed elsewhere
 linked_elsewhere : (es new : ℕ → Option Edge) (ls : List Link) → AllByRecursion (λ (l : Link). new l.at ≡ es l.at) ls → IsLinked es ls → IsLinked new ls

@@ -5,8 +5,9 @@ use Rattle.std.proofs.Math.Dec.{ltb, eqb}
 use Rattle.std.proofs.lemmas.Bool.{ltb-true, ltb-false, eqb-true, eq-eqb}
 use Rattle.dependency_graph.specs.Ready.{IsListing, IsListed, IsListedWithRoom, HasRoomAt, Raises, Lowers, Turns, is_unblocked, is_unblocked_in, is_unblocked_at}
 use Rattle.dependency_graph.specs.declared.ready.Ready.{Ready}
-use Rattle.dependency_graph.specs.declared.graph.Node.{Node}
+use Rattle.dependency_graph.specs.declared.graph.GraphNode.{GraphNode}
 use Rattle.std.proofs.lemmas.List.{length_push}
+use Rattle.lemmas.proofs.Tests.{not_out}
 use Rattle.dependency_graph.specs.Graphs.{Point, may_go, gone, mark_at}
 use Rattle.dependency_graph.specs.Kept.{points, is_finished_at, is_finished_first, IsSound}
 use Rattle.dependency_graph.specs.declared.chains.Chains.{Chains}
@@ -14,7 +15,6 @@ use Rattle.dependency_graph.proofs.Kept.{kept_now, waits_on, may_go_kept, gone_a
 use Rattle.dependency_graph.proofs.Popping.{unfinished_kept, length_set}
 use Rattle.dependency_graph.proofs.Adding.{set_last}
 use Rattle.dependency_graph.proofs.Levels.{level_less, level_raise, level_lower}
-use Rattle.rows.proofs.Lists.{not_out}
 
 pub listing_same : (r : Ready) (base end : ℕ) (p q : ℕ → Bool) → ((m : ℕ) → p m ≡ q m) → IsListing r base end p → IsListing r base end q
 listing_same r base end p q same h = subst (IsListing r base end) (λ i m. same m i) h
@@ -26,17 +26,17 @@ listing_less r base end fewer p le h = record {
   large = level_less 262144 (omega arith) r.large base end fewer p le h.large;
 }
 
-pub goes_in_at : (nodes : List Node) (i : ℕ) (x : Node) → x ≡ slice_index_or nodes i x → i < length nodes → is_unblocked_in nodes i ≡ is_unblocked x
+pub goes_in_at : (nodes : List GraphNode) (i : ℕ) (x : GraphNode) → x ≡ slice_index_or nodes i x → i < length nodes → is_unblocked_in nodes i ≡ is_unblocked x
 goes_in_at [] i x e lt = absurd (omega (lt, arith))
 goes_in_at (y ∷ nodes) zero x e lt = ap is_unblocked (sym e)
 goes_in_at (y ∷ nodes) (suc i) x e lt = goes_in_at nodes i x e (omega (lt, arith))
 
-goes_in_set : (nodes : List Node) (i : ℕ) (x : Node) → i < length nodes → is_unblocked_in (slice_set nodes i x) i ≡ is_unblocked x
+goes_in_set : (nodes : List GraphNode) (i : ℕ) (x : GraphNode) → i < length nodes → is_unblocked_in (slice_set nodes i x) i ≡ is_unblocked x
 goes_in_set [] i x lt = absurd (omega (lt, arith))
 goes_in_set (y ∷ nodes) zero x lt = refl
 goes_in_set (y ∷ nodes) (suc i) x lt = goes_in_set nodes i x (omega (lt, arith))
 
-goes_in_other : (nodes : List Node) (i j : ℕ) (x : Node) → (j ≡ i → ⊥) → is_unblocked_in (slice_set nodes i x) j ≡ is_unblocked_in nodes j
+goes_in_other : (nodes : List GraphNode) (i j : ℕ) (x : GraphNode) → (j ≡ i → ⊥) → is_unblocked_in (slice_set nodes i x) j ≡ is_unblocked_in nodes j
 goes_in_other [] i j x ne = refl
 goes_in_other (y ∷ nodes) zero zero x ne = absurd (ne refl)
 goes_in_other (y ∷ nodes) zero (suc j) x ne = refl
@@ -44,22 +44,22 @@ goes_in_other (y ∷ nodes) (suc i) zero x ne = refl
 goes_in_other (y ∷ nodes) (suc i) (suc j) x ne = goes_in_other nodes i j x (λ e. ne (ap suc e))
 
 -- a number after those that were dropped
-pub goes_before : (d n : ℕ) (nodes : List Node) → n < d → is_unblocked_at d nodes n ≡ false
+pub goes_before : (d n : ℕ) (nodes : List GraphNode) → n < d → is_unblocked_at d nodes n ≡ false
 goes_before d n nodes lt = by (ltb n d) refl
   where
     by : (b : Bool) → ltb n d ≡ b → cond b false (is_unblocked_in nodes (n - d)) ≡ false
     by true e = refl
     by false e = absurd (let le = ltb-false n d e in omega (le, lt, arith))
 
-by_kept : (b : Bool) (d n : ℕ) (nodes : List Node) → ltb n d ≡ b → d ≤ n → cond b false (is_unblocked_in nodes (n - d)) ≡ is_unblocked_in nodes (n - d)
+by_kept : (b : Bool) (d n : ℕ) (nodes : List GraphNode) → ltb n d ≡ b → d ≤ n → cond b false (is_unblocked_in nodes (n - d)) ≡ is_unblocked_in nodes (n - d)
 by_kept true d n nodes e le = absurd (let lt = ltb-true n d e in omega (le, lt, arith))
 by_kept false d n nodes e le = refl
 
-pub goes_behind : (d n : ℕ) (nodes : List Node) → d ≤ n → is_unblocked_at d nodes n ≡ is_unblocked_in nodes (n - d)
+pub goes_behind : (d n : ℕ) (nodes : List GraphNode) → d ≤ n → is_unblocked_at d nodes n ≡ is_unblocked_in nodes (n - d)
 goes_behind d n nodes le = by_kept (ltb n d) d n nodes refl le
 
 -- a change of one node
-pub goes_turns : (d : ℕ) (nodes : List Node) (i : ℕ) (x y : Node) (now : Bool) → x ≡ slice_index_or nodes i x → i < length nodes → is_unblocked x ≡ false → is_unblocked y ≡ now
+pub goes_turns : (d : ℕ) (nodes : List GraphNode) (i : ℕ) (x y : GraphNode) (now : Bool) → x ≡ slice_index_or nodes i x → i < length nodes → is_unblocked x ≡ false → is_unblocked y ≡ now
     → Turns (is_unblocked_at d nodes) (is_unblocked_at d (slice_set nodes i y)) (d + i) now
 goes_turns d nodes i x y now at lt was is = record {
   before = goes_behind d (d + i) nodes (omega arith) ∙ ap (is_unblocked_in nodes) place ∙ goes_in_at nodes i x at lt ∙ was;
@@ -75,7 +75,7 @@ goes_turns d nodes i x y now at lt was is = record {
     by_front false m ne e = goes_in_other nodes i (m - d) y (λ same. ne (let le = ltb-false m d e in omega (le, same, arith)))
 
 -- a change back
-pub goes_turns_back : (d : ℕ) (nodes : List Node) (i : ℕ) (x y : Node) (was : Bool) → x ≡ slice_index_or nodes i x → i < length nodes → is_unblocked x ≡ was → is_unblocked y ≡ false
+pub goes_turns_back : (d : ℕ) (nodes : List GraphNode) (i : ℕ) (x y : GraphNode) (was : Bool) → x ≡ slice_index_or nodes i x → i < length nodes → is_unblocked x ≡ was → is_unblocked y ≡ false
     → Turns (is_unblocked_at d (slice_set nodes i y)) (is_unblocked_at d nodes) (d + i) was
 goes_turns_back d nodes i x y was at lt is now = record {
   before = goes_behind d (d + i) (slice_set nodes i y) (omega arith) ∙ ap (is_unblocked_in (slice_set nodes i y)) place ∙ goes_in_set nodes i y lt ∙ now;
@@ -90,23 +90,23 @@ goes_turns_back d nodes i x y was at lt is now = record {
     by_front true m ne e = refl
     by_front false m ne e = goes_in_other nodes i (m - d) y (λ same. ne (let le = ltb-false m d e in omega (le, same, arith)))
 
-goes_in_end : (nodes : List Node) (x : Node) → is_unblocked_in (nodes ++ x ∷ []) (length nodes) ≡ is_unblocked x
+goes_in_end : (nodes : List GraphNode) (x : GraphNode) → is_unblocked_in (nodes ++ x ∷ []) (length nodes) ≡ is_unblocked x
 goes_in_end [] x = refl
 goes_in_end (y ∷ nodes) x = goes_in_end nodes x
 
-goes_in_past : (nodes : List Node) (i : ℕ) → length nodes ≤ i → is_unblocked_in nodes i ≡ false
+goes_in_past : (nodes : List GraphNode) (i : ℕ) → length nodes ≤ i → is_unblocked_in nodes i ≡ false
 goes_in_past [] i le = refl
 goes_in_past (y ∷ nodes) zero le = absurd (omega (le, arith))
 goes_in_past (y ∷ nodes) (suc i) le = goes_in_past nodes i (omega (le, arith))
 
-goes_in_push : (nodes : List Node) (x : Node) (i : ℕ) → (i ≡ length nodes → ⊥) → is_unblocked_in (nodes ++ x ∷ []) i ≡ is_unblocked_in nodes i
+goes_in_push : (nodes : List GraphNode) (x : GraphNode) (i : ℕ) → (i ≡ length nodes → ⊥) → is_unblocked_in (nodes ++ x ∷ []) i ≡ is_unblocked_in nodes i
 goes_in_push [] x zero ne = absurd (ne refl)
 goes_in_push [] x (suc i) ne = refl
 goes_in_push (y ∷ nodes) x zero ne = refl
 goes_in_push (y ∷ nodes) x (suc i) ne = goes_in_push nodes x i (λ e. ne (ap suc e))
 
 -- one node more
-pub goes_pushed : (d : ℕ) (nodes : List Node) (x : Node) (now : Bool) → is_unblocked x ≡ now → Turns (is_unblocked_at d nodes) (is_unblocked_at d (nodes ++ x ∷ [])) (d + length nodes) now
+pub goes_pushed : (d : ℕ) (nodes : List GraphNode) (x : GraphNode) (now : Bool) → is_unblocked x ≡ now → Turns (is_unblocked_at d nodes) (is_unblocked_at d (nodes ++ x ∷ [])) (d + length nodes) now
 goes_pushed d nodes x now is = record {
   before = goes_behind d (d + length nodes) nodes (omega arith) ∙ ap (is_unblocked_in nodes) place ∙ goes_in_past nodes (length nodes) (omega arith);
   after = goes_behind d (d + length nodes) (nodes ++ x ∷ []) (omega arith) ∙ ap (is_unblocked_in (nodes ++ x ∷ [])) place ∙ goes_in_end nodes x ∙ is;
@@ -121,7 +121,7 @@ goes_pushed d nodes x now is = record {
     by_front false m ne e = goes_in_push nodes x (m - d) (λ same. ne (let le = ltb-false m d e in omega (le, same, arith)))
 
 -- the first node, which is finished, is gone
-pub goes_dropped : (d : ℕ) (x : Node) (nodes : List Node) → x.finished ≡ true → (m : ℕ) → is_unblocked_at d (x ∷ nodes) m ≡ is_unblocked_at (d + 1) nodes m
+pub goes_dropped : (d : ℕ) (x : GraphNode) (nodes : List GraphNode) → x.finished ≡ true → (m : ℕ) → is_unblocked_at d (x ∷ nodes) m ≡ is_unblocked_at (d + 1) nodes m
 goes_dropped d x nodes done m = by_front (ltb m d) refl
   where
     later : d < m → is_unblocked_in (x ∷ nodes) (m - d) ≡ is_unblocked_in nodes (m - (d + 1))
@@ -164,7 +164,7 @@ module _ (old new : Ready) (base end n : ℕ) (p q : ℕ → Bool) (lo : base �
     large = level_lower 262144 (omega arith) old.large new.large base end n p q lo hi t c h.large;
   }
 
-pub listed_pushed : (d : ℕ) (nodes pushed : List Node) (x y : Node) (at : ℕ) (mid new : Ready) (now : Bool) → at ≡ length nodes → pushed ≡ nodes ++ x ∷ [] → is_unblocked y ≡ now
+pub listed_pushed : (d : ℕ) (nodes pushed : List GraphNode) (x y : GraphNode) (at : ℕ) (mid new : Ready) (now : Bool) → at ≡ length nodes → pushed ≡ nodes ++ x ∷ [] → is_unblocked y ≡ now
     → IsListing mid d (d + at + 1) (is_unblocked_at d nodes)
     → ((base end : ℕ) (p q : ℕ → Bool) → base ≤ d + at → d + at < end → Turns p q (d + at) now → IsListing mid base end p → IsListing new base end q)
     → IsListed d (slice_set pushed at y) new
@@ -177,12 +177,12 @@ listed_pushed d nodes pushed x y at mid new now at_is is go h put =
     subst (λ ns. IsListed d ns new) (sym set_now) (λ some. subst (λ e. IsListing new d e (is_unblocked_at d (nodes ++ y ∷ []))) ends listed)
 
 -- a node that waits for one key less
-pub listed_lowered : (d : ℕ) (nodes : List Node) (node : ℕ) (x : Node) (old new : Ready) → is_finished_at (points d nodes) node ≡ false → x ≡ slice_index_or nodes (node - d) x → 1 ≤ x.waits
+pub listed_lowered : (d : ℕ) (nodes : List GraphNode) (node : ℕ) (x : GraphNode) (old new : Ready) → is_finished_at (points d nodes) node ≡ false → x ≡ slice_index_or nodes (node - d) x → 1 ≤ x.waits
     → ((base end : ℕ) (p q : ℕ → Bool) → base ≤ node → node < end → Turns p q node (nat_eq (x.waits - 1) 0) → IsListing old base end p → IsListing new base end q)
     → IsListed d nodes old → IsListed d (slice_set nodes (node - d) (record x { waits = x.waits - 1 })) new
 listed_lowered d nodes node x old new open_one at waits put h = λ some.
     let inside = unfinished_kept d nodes node open_one in
-    let y : Node = record x { waits = x.waits - 1 } in
+    let y : GraphNode = record x { waits = x.waits - 1 } in
     let place : d + (node - d) ≡ node = let le = inside.0 in omega (le, arith) in
     let turned = goes_turns d nodes (node - d) x y (nat_eq (x.waits - 1) 0) at inside.1 (waits_on x.finished x.waits (λ e. absurd (omega (e, waits, arith)))) (ap (λ b. not b && nat_eq (x.waits - 1) 0) (open_here inside.1)) in
     let now : Turns (is_unblocked_at d nodes) (is_unblocked_at d (slice_set nodes (node - d) y)) node (nat_eq (x.waits - 1) 0) = subst (λ n. Turns (is_unblocked_at d nodes) (is_unblocked_at d (slice_set nodes (node - d) y)) n (nat_eq (x.waits - 1) 0)) place turned in
@@ -195,11 +195,11 @@ listed_lowered d nodes node x old new open_one at waits put h = λ some.
     open_here lt = ap (λ (p : Point). p.finished) (sym (kept_now d nodes node x (unfinished_kept d nodes node open_one).0 lt at)) ∙ open_one
 
 -- a node that is finished now
-pub listed_marked : (d : ℕ) (nodes : List Node) (at : ℕ) (x : Node) (old new : Ready) → x ≡ slice_index_or nodes at x → at < length nodes
+pub listed_marked : (d : ℕ) (nodes : List GraphNode) (at : ℕ) (x : GraphNode) (old new : Ready) → x ≡ slice_index_or nodes at x → at < length nodes
     → ((base end : ℕ) (p q : ℕ → Bool) → base ≤ d + at → d + at < end → Turns p q (d + at) (is_unblocked x) → IsListing old base end q → IsListing new base end p)
     → IsListed d nodes old → IsListed d (slice_set nodes at (record x { finished = true })) new
 listed_marked d nodes at x old new read lt take h = λ some.
-    let y : Node = record x { finished = true } in
+    let y : GraphNode = record x { finished = true } in
     let turned = goes_turns_back d nodes at x y (is_unblocked x) read lt refl refl in
     let size = length_set nodes at y in
     let ends : d + length nodes ≡ d + length (slice_set nodes at y) = omega (size, arith) in
@@ -207,7 +207,7 @@ listed_marked d nodes at x old new read lt take h = λ some.
     (take d (d + length nodes) (is_unblocked_at d (slice_set nodes at y)) (is_unblocked_at d nodes) (omega arith) (omega (lt, arith)) turned (h (omega (lt, arith))))
 
 -- the prefix, which is finished, is gone
-pub listed_dropped : (d : ℕ) (nodes new : List Node) (old ready : Ready) → is_finished_first nodes ≡ true → new ≡ drop 1 nodes
+pub listed_dropped : (d : ℕ) (nodes new : List GraphNode) (old ready : Ready) → is_finished_first nodes ≡ true → new ≡ drop 1 nodes
     → ((was end : ℕ) (p : ℕ → Bool) → was ≤ d + 1 → d + 1 ≤ end → ((m : ℕ) → m < d + 1 → p m ≡ false) → IsListing old was end p → IsListing ready (d + 1) end p)
     → IsListed d nodes old → IsListed (d + 1) new ready
 listed_dropped d [] new old ready first is pass h = absurd (true≢false (sym first))
@@ -219,10 +219,10 @@ listed_dropped d (x ∷ nodes) new old ready first is pass h =
     subst (λ ns. IsListed (d + 1) ns ready) (sym is) (λ some. subst (λ e. IsListing ready (d + 1) e (is_unblocked_at (d + 1) nodes)) ends passed)
 
 -- no nodes, and room for the next one
-none_listed : (d : ℕ) (nodes : List Node) (r : Ready) → length nodes ≡ 0 → ((p : ℕ → Bool) → ((m : ℕ) → p m ≡ false) → IsListing r d (d + 1) p) → IsListedWithRoom d nodes r
+none_listed : (d : ℕ) (nodes : List GraphNode) (r : Ready) → length nodes ≡ 0 → ((p : ℕ → Bool) → ((m : ℕ) → p m ≡ false) → IsListing r d (d + 1) p) → IsListedWithRoom d nodes r
 none_listed d [] r e h = subst (λ n. IsListing r d n (is_unblocked_at d [])) ends (h (is_unblocked_at d []) none)
   where
-    ends : d + 1 ≡ d + length {A = Node} [] + 1
+    ends : d + 1 ≡ d + length {A = GraphNode} [] + 1
     ends = omega arith
 
     none_by : (b : Bool) (n : ℕ) → cond b false (is_unblocked_in [] n) ≡ false
@@ -233,31 +233,31 @@ none_listed d [] r e h = subst (λ n. IsListing r d n (is_unblocked_at d [])) en
     none m = none_by (nat_lt m d) (m - d)
 none_listed d (x ∷ nodes) r e h = absurd (omega (e, arith))
 
-pub restarted : {E : Type 0} (d : ℕ) (nodes : List Node) (old new : Ready) (result : Result (Unit {0}) E) → length nodes ≡ 0 → OnOk result ((p : ℕ → Bool) → ((m : ℕ) → p m ≡ false) → IsListing new d (d + 1) p)
+pub restarted : {E : Type 0} (d : ℕ) (nodes : List GraphNode) (old new : Ready) (result : Result (Unit {0}) E) → length nodes ≡ 0 → OnOk result ((p : ℕ → Bool) → ((m : ℕ) → p m ≡ false) → IsListing new d (d + 1) p)
     → OnOk result (IsListed d nodes old → IsListedWithRoom d nodes new)
 restarted d nodes old new (Ok done) e h = λ listed. none_listed d nodes new e h
 restarted d nodes old new (Err fault) e h = tt
 
 -- some nodes, and room for the next one
-pub reserved : {E : Type 0} (d : ℕ) (nodes : List Node) (n : ℕ) (old new : Ready) (result : Result (Unit {0}) E) → n ≡ length nodes → 0 < length nodes → OnOk result (HasRoomAt (d + n) old new)
+pub reserved : {E : Type 0} (d : ℕ) (nodes : List GraphNode) (n : ℕ) (old new : Ready) (result : Result (Unit {0}) E) → n ≡ length nodes → 0 < length nodes → OnOk result (HasRoomAt (d + n) old new)
     → OnOk result (IsListed d nodes old → IsListedWithRoom d nodes new)
 reserved d nodes n old new (Ok done) at some h = λ listed.
     subst (λ m. IsListing new d (d + m + 1) (is_unblocked_at d nodes)) at
     (h d (is_unblocked_at d nodes) (omega arith) (subst (λ m. IsListing old d (d + m) (is_unblocked_at d nodes)) (sym at) (listed some)))
 reserved d nodes n old new (Err fault) at some h = tt
 
-any_read : (nodes : List Node) (i : ℕ) → i < length nodes → (x : Node) × (x ≡ slice_index_or nodes i x)
+any_read : (nodes : List GraphNode) (i : ℕ) → i < length nodes → (x : GraphNode) × (x ≡ slice_index_or nodes i x)
 any_read [] i lt = absurd (omega (lt, arith))
 any_read (y ∷ nodes) zero lt = (y, refl)
 any_read (y ∷ nodes) (suc i) lt = any_read nodes i (omega (lt, arith))
 
 -- a node that is here may go where it goes
-pub goes_as_told : (d : ℕ) (nodes : List Node) (c : Chains) (m : ℕ) → IsSound d nodes c → d ≤ m → (m - d) < length nodes → may_go (points d nodes) m ≡ is_unblocked_at d nodes m
+pub goes_as_told : (d : ℕ) (nodes : List GraphNode) (c : Chains) (m : ℕ) → IsSound d nodes c → d ≤ m → (m - d) < length nodes → may_go (points d nodes) m ≡ is_unblocked_at d nodes m
 goes_as_told d nodes c m sound le lt =
     let x = any_read nodes (m - d) lt in
     may_go_kept d nodes c sound m x.0 le lt x.1 ∙ sym (goes_behind d m nodes le ∙ goes_in_at nodes (m - d) x.0 x.1 lt)
 
-pub take_front : (xs ys : List Node) → take (length xs) (xs ++ ys) ≡ xs
+pub take_front : (xs ys : List GraphNode) → take (length xs) (xs ++ ys) ≡ xs
 take_front [] ys = refl
 take_front (x ∷ xs) ys = ap (λ zs. x ∷ zs) (take_front xs ys)
 

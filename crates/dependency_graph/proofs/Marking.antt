@@ -11,7 +11,7 @@ use Rattle.rows.specs.WriteSet.{is_among}
 use Rattle.dependency_graph.specs.Graphs.{Point, gone, point_at, is_open_at, drop_finished}
 use Rattle.dependency_graph.specs.Chains.{first_number}
 use Rattle.dependency_graph.specs.Kept.{points, point_of, waiting, is_finished_at, is_finished_first, StartsOpen, IsChained, IsCounted, IsKept, keys_at, IsFrontOpen}
-use Rattle.dependency_graph.specs.declared.graph.Node.{Node}
+use Rattle.dependency_graph.specs.declared.graph.GraphNode.{GraphNode}
 use Rattle.dependency_graph.specs.declared.chains.Chains.{Chains}
 use Rattle.dependency_graph.proofs.Linked.{first_is}
 use Rattle.dependency_graph.proofs.Popping.{open_parts, node_in_set, length_set}
@@ -55,7 +55,7 @@ module _ (ps qs : List Point) (n : ℕ) (mark : IsMarked ps qs n) (chain : Key �
     starts = λ k. starts_marked k (chain k) (chained.starts k) (chained.members k);
   }
 
-points_set_kept : (nodes : List Node) (i : ℕ) (x : Node) → map point_of (slice_set nodes i x) ≡ slice_set (map point_of nodes) i (point_of x)
+points_set_kept : (nodes : List GraphNode) (i : ℕ) (x : GraphNode) → map point_of (slice_set nodes i x) ≡ slice_set (map point_of nodes) i (point_of x)
 points_set_kept [] i x = refl
 points_set_kept (n ∷ nodes) zero x = refl
 points_set_kept (n ∷ nodes) (suc i) x = ap (λ qs. point_of n ∷ qs) (points_set_kept nodes i x)
@@ -66,19 +66,19 @@ set_behind (suc d) i ps p =
     let same : suc (d + i) ≡ suc d + i = omega arith in
     ap (λ qs. gone ∷ qs) (set_behind d i ps p) ∙ ap (λ j. slice_set (gone ∷ (replicate d gone ++ ps)) j p) same
 
-pub points_set : (d i : ℕ) (nodes : List Node) (x : Node) → points d (slice_set nodes i x) ≡ slice_set (points d nodes) (d + i) (point_of x)
+pub points_set : (d i : ℕ) (nodes : List GraphNode) (x : GraphNode) → points d (slice_set nodes i x) ≡ slice_set (points d nodes) (d + i) (point_of x)
 points_set d i nodes x = ap (λ qs. replicate d gone ++ qs) (points_set_kept nodes i x) ∙ set_behind d i (map point_of nodes) (point_of x)
 
-pub point_here : (nodes : List Node) (i : ℕ) (x : Node) → x ≡ slice_index_or nodes i x → i < length nodes → point_at (map point_of nodes) i ≡ point_of x
+pub point_here : (nodes : List GraphNode) (i : ℕ) (x : GraphNode) → x ≡ slice_index_or nodes i x → i < length nodes → point_at (map point_of nodes) i ≡ point_of x
 point_here [] i x h lt = absurd (omega (lt, arith))
 point_here (n ∷ nodes) zero x h lt = ap point_of (sym h)
 point_here (n ∷ nodes) (suc i) x h lt = point_here nodes i x h (omega (lt, arith))
 
-pub keys_here : (nodes : List Node) (i : ℕ) (x : Node) → x ≡ slice_index_or nodes i x → i < length nodes → keys_at nodes i ≡ x.keys.items
+pub keys_here : (nodes : List GraphNode) (i : ℕ) (x : GraphNode) → x ≡ slice_index_or nodes i x → i < length nodes → keys_at nodes i ≡ x.keys.items
 keys_here nodes i x h lt = ap (λ (p : Point). p.keys) (point_here nodes i x h lt)
 
-module _ (d : ℕ) (nodes : List Node) (c : Chains) (kept : IsKept d nodes c []) (i : ℕ) (x : Node) (at : x ≡ slice_index_or nodes i x) (lt : i < length nodes) where
-  abbrev marked : Node
+module _ (d : ℕ) (nodes : List GraphNode) (c : Chains) (kept : IsKept d nodes c []) (i : ℕ) (x : GraphNode) (at : x ≡ slice_index_or nodes i x) (lt : i < length nodes) where
+  abbrev marked : GraphNode
   marked = record x { finished = true }
 
   here_now : point_at (points d nodes) (d + i) ≡ point_of x
@@ -97,7 +97,7 @@ module _ (d : ℕ) (nodes : List Node) (c : Chains) (kept : IsKept d nodes c [])
   counted_marked : IsCounted d (slice_set nodes i marked) kept.chain
   counted_marked j y in_range read unfinished =
       let size = length_set nodes i marked in
-      ⊎_elim (λ here. absurd (both_ways y.finished unfinished (ap (λ (z : Node). z.finished) here.1)))
+      ⊎_elim (λ here. absurd (both_ways y.finished unfinished (ap (λ (z : GraphNode). z.finished) here.1)))
       (λ far. kept.counted j y (omega (in_range, size, arith)) far.1 unfinished) (node_in_set nodes i j marked y lt read)
 
   pub kept_marked : IsKept d (slice_set nodes i marked) c (keys_at (slice_set nodes i marked) i)
@@ -112,7 +112,7 @@ module _ (d : ℕ) (nodes : List Node) (c : Chains) (kept : IsKept d nodes c [])
         small = let old = kept.small in omega (size, old, arith);
         distinct = λ j y in_range read.
             let in_old : j < length nodes = omega (in_range, size, arith) in
-            ⊎_elim (λ here. subst (λ (z : Node). IsDistinct key_eq z.keys.items) (sym here.1) (kept.distinct i x lt at))
+            ⊎_elim (λ here. subst (λ (z : GraphNode). IsDistinct key_eq z.keys.items) (sym here.1) (kept.distinct i x lt at))
             (λ far. kept.distinct j y in_old far.1) (node_in_set nodes i j marked y lt read);
         chained = subst (IsChained (points d (slice_set nodes i marked)) kept.chain) (keys_old ∙ sym keys_now)
             (chained_marked (points d nodes) (points d (slice_set nodes i marked)) (d + i) is_marked kept.chain kept.chained);
@@ -125,7 +125,7 @@ starts_settled ps [] b c front h = tt
 starts_settled ps (n ∷ ns) true c front h = inl (front n refl refl)
 starts_settled ps (n ∷ ns) false c front h = h
 
-pub kept_settled : (d : ℕ) (nodes : List Node) (c : Chains) (k : Key) (late : List Key) → IsKept d nodes c (k ∷ late) → IsFrontOpen (points d nodes) c (k ∷ late) → IsKept d nodes c late
+pub kept_settled : (d : ℕ) (nodes : List GraphNode) (c : Chains) (k : Key) (late : List Key) → IsKept d nodes c (k ∷ late) → IsFrontOpen (points d nodes) c (k ∷ late) → IsKept d nodes c late
 kept_settled d nodes c k late kept front = record {
   chain = kept.chain;
   holds = kept.holds;
@@ -154,23 +154,23 @@ behind_gone : (d : ℕ) (ps : List Point) → drop_finished (replicate d gone ++
 behind_gone zero ps = refl
 behind_gone (suc d) ps = ap (λ qs. gone ∷ qs) (behind_gone d ps)
 
-goes : (d : ℕ) (n : Node) (rest : List Node) → n.finished ≡ true → drop_finished (points (d + 1) rest) ≡ drop_finished (points d (n ∷ rest))
+goes : (d : ℕ) (n : GraphNode) (rest : List GraphNode) → n.finished ≡ true → drop_finished (points (d + 1) rest) ≡ drop_finished (points d (n ∷ rest))
 goes d n rest e =
     ap drop_finished (more_gone d (map point_of rest))
     ∙ behind_gone d (gone ∷ map point_of rest)
     ∙ ap (λ b. replicate d gone ++ cond b (gone ∷ drop_finished (map point_of rest)) (point_of n ∷ map point_of rest)) (sym e)
     ∙ sym (behind_gone d (point_of n ∷ map point_of rest))
 
-stays : (d : ℕ) (n : Node) (rest : List Node) → n.finished ≡ false → points d (n ∷ rest) ≡ drop_finished (points d (n ∷ rest))
+stays : (d : ℕ) (n : GraphNode) (rest : List GraphNode) → n.finished ≡ false → points d (n ∷ rest) ≡ drop_finished (points d (n ∷ rest))
 stays d n rest e =
     sym (behind_gone d (point_of n ∷ map point_of rest)
     ∙ ap (λ b. replicate d gone ++ cond b (gone ∷ drop_finished (map point_of rest)) (point_of n ∷ map point_of rest)) e)
 
-pub nothing_goes : (d : ℕ) (nodes : List Node) → is_finished_first nodes ≡ false → points d nodes ≡ drop_finished (points d nodes)
+pub nothing_goes : (d : ℕ) (nodes : List GraphNode) → is_finished_first nodes ≡ false → points d nodes ≡ drop_finished (points d nodes)
 nothing_goes d [] e = sym (behind_gone d [])
 nothing_goes d (n ∷ rest) e = stays d n rest e
 
-pub drop_goes : (d : ℕ) (nodes new : List Node) → is_finished_first nodes ≡ true → new ≡ drop 1 nodes → drop_finished (points (d + 1) new) ≡ drop_finished (points d nodes)
+pub drop_goes : (d : ℕ) (nodes new : List GraphNode) → is_finished_first nodes ≡ true → new ≡ drop 1 nodes → drop_finished (points (d + 1) new) ≡ drop_finished (points d nodes)
 drop_goes d [] new e is = cc
 drop_goes d (n ∷ rest) new e is = ap (λ ns. drop_finished (points (d + 1) ns)) is ∙ goes d n rest e
 
@@ -218,7 +218,7 @@ size_swap (x ∷ xs) p q zs = ap suc (size_swap xs p q zs)
 not_open : (k : Key) (p : Point) → p.finished ≡ true → is_open_at k gone ≡ is_open_at k p
 not_open k p e = sym (ap (λ b. not b && is_among p.keys k) e)
 
-kept_without : (d : ℕ) (n : Node) (rest : List Node) (c : Chains) → n.finished ≡ true → IsKept d (n ∷ rest) c [] → IsKept (d + 1) rest c []
+kept_without : (d : ℕ) (n : GraphNode) (rest : List GraphNode) (c : Chains) → n.finished ≡ true → IsKept d (n ∷ rest) c [] → IsKept (d + 1) rest c []
 kept_without d n rest c e kept = record {
   chain = kept.chain;
   holds = kept.holds;
@@ -237,6 +237,6 @@ kept_without d n rest c e kept = record {
       kept.counted (suc i) x (omega (lt, arith)) read unfinished ∙ ap (λ j. waiting (λ k. first_number (kept.chain k)) j x.keys.items) same;
 }
 
-pub drop_kept : (d : ℕ) (nodes new : List Node) (c : Chains) → is_finished_first nodes ≡ true → new ≡ drop 1 nodes → IsKept d nodes c [] → IsKept (d + 1) new c []
+pub drop_kept : (d : ℕ) (nodes new : List GraphNode) (c : Chains) → is_finished_first nodes ≡ true → new ≡ drop 1 nodes → IsKept d nodes c [] → IsKept (d + 1) new c []
 drop_kept d [] new c e is s = cc
 drop_kept d (n ∷ rest) new c e is s = subst (λ ns. IsKept (d + 1) ns c []) (sym is) (kept_without d n rest c e s)

@@ -3,7 +3,7 @@ use Rattle.std.proofs.Common.{◌≡◌, ℕ, zero, suc, ◌+◌, ◌<◌, true,
 use Rattle.std.proofs.lemmas.Bool.{and_parts, both_ways}
 use Rattle.dependency_graph.specs.Graphs.{Point, gone, point_at, are_finished, drop_finished, is_open_at}
 use Rattle.dependency_graph.specs.Kept.{points, is_finished_at, IsKept, StartsOpen}
-use Rattle.dependency_graph.specs.declared.graph.Node.{Node}
+use Rattle.dependency_graph.specs.declared.graph.GraphNode.{GraphNode}
 use Rattle.dependency_graph.specs.declared.chains.Chains.{Chains}
 use Rattle.dependency_graph.proofs.Linked.{all_both}
 use Rattle.dependency_graph.proofs.Kept.{length_points}
@@ -19,7 +19,7 @@ all_gone (p ∷ ps) h =
     ap (λ b. cond b (gone ∷ drop_finished (ps ++ gone ∷ [])) (p ∷ (ps ++ gone ∷ []))) both.0 ∙ ap (λ qs. gone ∷ qs) (all_gone ps both.1)
 
 -- what its callers see then
-pub passed_is : (d : ℕ) (nodes : List Node) (n : ℕ) → n ≡ length nodes → are_finished (points d nodes) ≡ true → points (d + (n + 1)) [] ≡ drop_finished (points d nodes ++ gone ∷ [])
+pub passed_is : (d : ℕ) (nodes : List GraphNode) (n : ℕ) → n ≡ length nodes → are_finished (points d nodes) ≡ true → points (d + (n + 1)) [] ≡ drop_finished (points d nodes ++ gone ∷ [])
 passed_is d nodes n at h =
     let size = length_points d nodes in
     let same : d + (n + 1) ≡ suc (length (points d nodes)) = omega (size, at, arith) in
@@ -36,7 +36,7 @@ finished_here (p ∷ ps) zero h = (and_parts p.finished (are_finished ps) h).0
 finished_here (p ∷ ps) (suc n) h = finished_here ps n (and_parts p.finished (are_finished ps) h).1
 
 -- what is kept then
-module _ (d : ℕ) (nodes : List Node) (c : Chains) (n : ℕ) (at : n ≡ length nodes) (few : d + length nodes < 4294967294) (done : are_finished (points d nodes) ≡ true) (kept : IsKept d nodes c []) where
+module _ (d : ℕ) (nodes : List GraphNode) (c : Chains) (n : ℕ) (at : n ≡ length nodes) (few : d + length nodes < 4294967294) (done : are_finished (points d nodes) ≡ true) (kept : IsKept d nodes c []) where
   abbrev qs : List Point
   qs = points (d + (n + 1)) []
 

@@ -4,6 +4,7 @@ use Rattle.std.proofs.lemmas.Bool.{lt-ltb, le-ltb, cases_eq, cases_lt, or_parts,
 use Rattle.std.proofs.lemmas.List.{get_or-set_same, get_or-set_other, get_or_past}
 use Rattle.std.specs.Prelude.{slice_index_or, slice_set}
 use Rattle.std.specs.List.{AllByRecursion, IsDistinct}
+use Rattle.lemmas.proofs.Tests.{not_and_parts}
 use Rattle.rows.specs.declared.change.Key.{Key}
 use Rattle.rows.specs.Order.{key_eq}
 use Rattle.rows.specs.Total.{key_eq_same, key_eq_self}
@@ -11,7 +12,7 @@ use Rattle.rows.specs.WriteSet.{is_among}
 use Rattle.dependency_graph.specs.Graphs.{Point, gone, point_at, is_open_at}
 use Rattle.dependency_graph.specs.Chains.{Holds, IsAscending, first_number, with_chain}
 use Rattle.dependency_graph.specs.Kept.{points, point_of, is_below, waiting, is_finished_at, Has, StartsOpen, IsChained, IsKept}
-use Rattle.dependency_graph.specs.declared.graph.Node.{Node}
+use Rattle.dependency_graph.specs.declared.graph.GraphNode.{GraphNode}
 use Rattle.dependency_graph.specs.declared.chains.Chains.{Chains}
 use Rattle.dependency_graph.proofs.Entries.{flip}
 use Rattle.dependency_graph.proofs.Chained.{has_cases, all_has}
@@ -62,12 +63,8 @@ waiting_once : (f g : Key → Option ℕ) (n : ℕ) (k : Key) → ((q : Key) →
 waiting_once f g n k h [] d inside = absurd (both_ways false refl inside)
 waiting_once f g n k h (x ∷ ks) d inside = once_by f g n k h x ks d (key_eq k x) refl inside (waiting_once f g n k h ks (distinct_rest x ks d))
 
-both_true : (a b : Bool) → (not a && b) ≡ true → (a ≡ false) × (b ≡ true)
-both_true true b h = cc
-both_true false b h = (refl, h)
-
 pub open_parts : (k : Key) (p : Point) → is_open_at k p ≡ true → (p.finished ≡ false) × (is_among p.keys k ≡ true)
-open_parts k p h = both_true p.finished (is_among p.keys k) h
+open_parts k p h = not_and_parts p.finished (is_among p.keys k) h
 
 pub open_made : (k : Key) (p : Point) → p.finished ≡ false → is_among p.keys k ≡ true → is_open_at k p ≡ true
 open_made k p a b = ap (λ x. not x && is_among p.keys k) a ∙ b
@@ -177,32 +174,32 @@ module _ (ps : List Point) (chain : Key → List ℕ) (late : List Key) (chained
   }
 
 -- ---- the nodes
-pub node_in_set : (nodes : List Node) (j i : ℕ) (x y : Node) → j < length nodes → y ≡ slice_index_or (slice_set nodes j x) i y → ((i ≡ j) × (y ≡ x)) ⊎ ((i ≡ j → ⊥) × (y ≡ slice_index_or nodes i y))
+pub node_in_set : (nodes : List GraphNode) (j i : ℕ) (x y : GraphNode) → j < length nodes → y ≡ slice_index_or (slice_set nodes j x) i y → ((i ≡ j) × (y ≡ x)) ⊎ ((i ≡ j → ⊥) × (y ≡ slice_index_or nodes i y))
 node_in_set nodes j i x y lt h =
     ⊎_elim (λ same. inl (same, h ∙ ap (λ n. slice_index_or (slice_set nodes j x) n y) same ∙ get_or-set_same nodes j x y lt))
     (λ other. inr (other, h ∙ get_or-set_other nodes j i x y other)) (cases_eq i j)
 
-pub length_set : (nodes : List Node) (j : ℕ) (x : Node) → length (slice_set nodes j x) ≡ length nodes
+pub length_set : (nodes : List GraphNode) (j : ℕ) (x : GraphNode) → length (slice_set nodes j x) ≡ length nodes
 length_set [] j x = refl
 length_set (n ∷ nodes) zero x = refl
 length_set (n ∷ nodes) (suc j) x = ap suc (length_set nodes j x)
 
-pub same_points : (nodes : List Node) (j : ℕ) (x y : Node) → x ≡ slice_index_or nodes j x → j < length nodes → point_of y ≡ point_of x → map point_of (slice_set nodes j y) ≡ map point_of nodes
+pub same_points : (nodes : List GraphNode) (j : ℕ) (x y : GraphNode) → x ≡ slice_index_or nodes j x → j < length nodes → point_of y ≡ point_of x → map point_of (slice_set nodes j y) ≡ map point_of nodes
 same_points [] j x y h lt e = absurd (omega (lt, arith))
 same_points (n ∷ nodes) zero x y h lt e = ap (λ p. p ∷ map point_of nodes) (e ∙ ap point_of h)
 same_points (n ∷ nodes) (suc j) x y h lt e = ap (λ qs. point_of n ∷ qs) (same_points nodes j x y h (omega (lt, arith)) e)
 
-unfinished_by : (d : ℕ) (nodes : List Node) (m : ℕ) → (m < d) ⊎ (d ≤ m) → ((m - d) < length nodes) ⊎ (length nodes ≤ (m - d)) → is_finished_at (points d nodes) m ≡ false → (d ≤ m) × ((m - d) < length nodes)
+unfinished_by : (d : ℕ) (nodes : List GraphNode) (m : ℕ) → (m < d) ⊎ (d ≤ m) → ((m - d) < length nodes) ⊎ (length nodes ≤ (m - d)) → is_finished_at (points d nodes) m ≡ false → (d ≤ m) × ((m - d) < length nodes)
 unfinished_by d nodes m (inl lt) b e = absurd (both_ways (is_finished_at (points d nodes) m) e (ap (λ (p : Point). p.finished) (gone_at d m (map point_of nodes) lt)))
 unfinished_by d nodes m (inr le) (inl lt) e = (le, lt)
 unfinished_by d nodes m (inr le) (inr past) e =
     let size = length_points d nodes in
     absurd (both_ways (is_finished_at (points d nodes) m) e (ap (λ (p : Point). p.finished) (get_or_past (points d nodes) m gone (omega (size, past, le, arith)))))
 
-pub unfinished_kept : (d : ℕ) (nodes : List Node) (m : ℕ) → is_finished_at (points d nodes) m ≡ false → (d ≤ m) × ((m - d) < length nodes)
+pub unfinished_kept : (d : ℕ) (nodes : List GraphNode) (m : ℕ) → is_finished_at (points d nodes) m ≡ false → (d ≤ m) × ((m - d) < length nodes)
 unfinished_kept d nodes m e = unfinished_by d nodes m (cases_lt m d) (cases_lt (m - d) (length nodes)) e
 
-module _ (d : ℕ) (nodes : List Node) (c new : Chains) (late : List Key) (kept : IsKept d nodes c late)
+module _ (d : ℕ) (nodes : List GraphNode) (c new : Chains) (late : List Key) (kept : IsKept d nodes c late)
     (k : Key) (n : ℕ) (ns : List ℕ) (is : kept.chain k ≡ n ∷ ns) (done : is_finished_at (points d nodes) n ≡ true) (inside : is_among late k ≡ true)
     (holds : Holds new (with_chain kept.chain k ns)) where
   abbrev old_first : Key → Option ℕ
@@ -211,7 +208,7 @@ module _ (d : ℕ) (nodes : List Node) (c new : Chains) (late : List Key) (kept 
   abbrev new_first : Key → Option ℕ
   new_first q = first_number (with_chain kept.chain k ns q)
 
-  steps : (i : ℕ) (x : Node) → i < length nodes → x ≡ slice_index_or nodes i x → x.finished ≡ false
+  steps : (i : ℕ) (x : GraphNode) → i < length nodes → x ≡ slice_index_or nodes i x → x.finished ≡ false
       → (first_number ns ≡ Some (d + i) → waiting old_first (d + i) x.keys.items ≡ waiting new_first (d + i) x.keys.items + 1)
       × ((first_number ns ≡ Some (d + i) → ⊥) → waiting old_first (d + i) x.keys.items ≡ waiting new_first (d + i) x.keys.items)
   steps i x lt at open_one =
@@ -219,7 +216,7 @@ module _ (d : ℕ) (nodes : List Node) (c new : Chains) (late : List Key) (kept 
       count_step (points d nodes) kept.chain late kept.chained k n ns is done (d + i) x.keys.items (kept.distinct i x lt at)
       (ap (λ (p : Point). p.finished) here ∙ open_one) (ap (λ (p : Point). p.keys) here)
 
-  pub waits_one : (m : ℕ) (x : Node) → first_number ns ≡ Some m → is_finished_at (points d nodes) m ≡ false → x ≡ slice_index_or nodes (m - d) x → 1 ≤ x.waits
+  pub waits_one : (m : ℕ) (x : GraphNode) → first_number ns ≡ Some m → is_finished_at (points d nodes) m ≡ false → x ≡ slice_index_or nodes (m - d) x → 1 ≤ x.waits
   waits_one m x first open_one at =
       let within = unfinished_kept d nodes m open_one in
       let same : d + (m - d) ≡ m = omega (within.0, arith) in
@@ -242,8 +239,8 @@ module _ (d : ℕ) (nodes : List Node) (c new : Chains) (late : List Key) (kept 
         (ap (λ (p : Point). p.finished) (kept_at d i nodes x (sym at) lt) ∙ open_one) (all_done (d + i) first));
   }
 
-  module _ (m : ℕ) (x : Node) (first : first_number ns ≡ Some m) (open_one : is_finished_at (points d nodes) m ≡ false) (at : x ≡ slice_index_or nodes (m - d) x) where
-    abbrev lowered : Node
+  module _ (m : ℕ) (x : GraphNode) (first : first_number ns ≡ Some m) (open_one : is_finished_at (points d nodes) m ≡ false) (at : x ≡ slice_index_or nodes (m - d) x) where
+    abbrev lowered : GraphNode
     lowered = record x { waits = x.waits - 1 }
 
     within : (d ≤ m) × ((m - d) < length nodes)
@@ -262,7 +259,7 @@ module _ (d : ℕ) (nodes : List Node) (c new : Chains) (late : List Key) (kept 
         let waits = kept.counted i x lt read unfinished in
         omega (step, waits, arith)
 
-    counted_other : (i : ℕ) (y : Node) → (i ≡ m - d → ⊥) → i < length nodes → y ≡ slice_index_or nodes i y → y.finished ≡ false → y.waits ≡ waiting new_first (d + i) y.keys.items
+    counted_other : (i : ℕ) (y : GraphNode) → (i ≡ m - d → ⊥) → i < length nodes → y ≡ slice_index_or nodes i y → y.finished ≡ false → y.waits ≡ waiting new_first (d + i) y.keys.items
     counted_other i y ne lt read unfinished =
         kept.counted i y lt read unfinished
         ∙ (steps i y lt read unfinished).1 (λ e. ne (let same = same_some m (d + i) (sym first ∙ e) in omega (same, arith)))
@@ -275,13 +272,13 @@ module _ (d : ℕ) (nodes : List Node) (c new : Chains) (late : List Key) (kept 
       distinct = λ i y lt read.
           let size = length_set nodes (m - d) lowered in
           let lt_old : i < length nodes = omega (lt, size, arith) in
-          ⊎_elim (λ here. subst (λ (z : Node). IsDistinct key_eq z.keys.items) (sym here.1) (kept.distinct (m - d) x within.1 at))
+          ⊎_elim (λ here. subst (λ (z : GraphNode). IsDistinct key_eq z.keys.items) (sym here.1) (kept.distinct (m - d) x within.1 at))
           (λ other. kept.distinct i y lt_old other.1) (node_in_set nodes (m - d) i lowered y within.1 read);
       chained = subst (λ qs. IsChained qs (with_chain kept.chain k ns) late) (sym points_same) (chained_popped (points d nodes) kept.chain late kept.chained k n ns is done inside);
       counted = λ i y lt read unfinished.
           let size = length_set nodes (m - d) lowered in
           let lt_old : i < length nodes = omega (lt, size, arith) in
-          ⊎_elim (λ here. subst (λ (z : Node). z.waits ≡ waiting new_first (d + i) z.keys.items) (sym here.1)
-          (counted_here i here.0 (sym (ap (λ (z : Node). z.finished) here.1) ∙ unfinished)))
+          ⊎_elim (λ here. subst (λ (z : GraphNode). z.waits ≡ waiting new_first (d + i) z.keys.items) (sym here.1)
+          (counted_here i here.0 (sym (ap (λ (z : GraphNode). z.finished) here.1) ∙ unfinished)))
           (λ other. counted_other i y other.0 lt_old other.1 unfinished) (node_in_set nodes (m - d) i lowered y within.1 read);
     }

@@ -11,7 +11,7 @@ use Rattle.dependency_graph.specs.Graphs.{Point, gone, mark_at, point_at}
 use Rattle.std.specs.Bool.{OnTrue, OnFalse}
 use Rattle.dependency_graph.specs.Chains.{Holds, with_chain, first_number, first_of, PopsFirst}
 use Rattle.dependency_graph.specs.Kept.{points, point_of, is_finished_at, IsKept, keys_at, IsFrontOpen, Releases, CanRelease}
-use Rattle.dependency_graph.specs.declared.graph.Node.{Node}
+use Rattle.dependency_graph.specs.declared.graph.GraphNode.{GraphNode}
 use Rattle.dependency_graph.specs.declared.chains.Chains.{Chains}
 use Rattle.dependency_graph.proofs.Entries.{some_key}
 use Rattle.dependency_graph.proofs.Linked.{first_is, pop_holds, pop_fewer}
@@ -20,7 +20,7 @@ use Rattle.dependency_graph.proofs.Popping.{unfinished_kept, waits_one, popped_s
 use Rattle.dependency_graph.proofs.Marking.{kept_settled, keys_here, points_set}
 use Rattle.std.proofs.lemmas.Bool.{both_ways}
 
-pub releases_at : (d : ℕ) (old : List Node) (x : Node) (node : ℕ) (first : Option ℕ) → first ≡ Some node → x ≡ slice_index_or old (node - d) x → is_finished_at (points d old) node ≡ false
+pub releases_at : (d : ℕ) (old : List GraphNode) (x : GraphNode) (node : ℕ) (first : Option ℕ) → first ≡ Some node → x ≡ slice_index_or old (node - d) x → is_finished_at (points d old) node ≡ false
     → Releases d old (slice_set old (node - d) (record x { waits = x.waits - 1 })) first
 releases_at d old x node first is at open_one = record {
   unfinished = λ n e unf.
@@ -37,7 +37,7 @@ first_rest : (n : ℕ) (xs : List ℕ) → first_number xs ≡ Some n → (ns : 
 first_rest n [] e = cc
 first_rest n (x ∷ xs) e = (xs, ap (λ m. m ∷ xs) (same_some x n e))
 
-module _ (d : ℕ) (nodes : List Node) (c new : Chains) (late : List Key) (kept : IsKept d nodes c late)
+module _ (d : ℕ) (nodes : List GraphNode) (c new : Chains) (late : List Key) (kept : IsKept d nodes c late)
     (k : Key) (n : ℕ) (first : first_of c k ≡ Some n) (done : is_finished_at (points d nodes) n ≡ true) (inside : is_among late k ≡ true) (pops : PopsFirst c new k) where
   front : first_number (kept.chain k) ≡ Some n
   front = sym (first_is c kept.chain kept.holds k) ∙ first
@@ -58,7 +58,7 @@ module _ (d : ℕ) (nodes : List Node) (c new : Chains) (late : List Key) (kept 
     pub popped_can : CanRelease d nodes next
     popped_can m x e open_one at = waits_one d nodes c new late kept k n rest.0 rest.1 done inside holds_now m x (sym (is ∙ next_is) ∙ e) open_one at
 
-    module _ (now : List Node) (r : Releases d nodes now next) where
+    module _ (now : List GraphNode) (r : Releases d nodes now next) where
       abbrev Goes : Type 0
       Goes = IsKept d now new late × (map point_of now ≡ map point_of nodes)
 
@@ -96,28 +96,28 @@ late_here ks i k at lt =
     ∙ ap (λ q. key_eq k q || is_among (drop (i + 1) ks) k) (sym at)
     ∙ ap (λ b. b || is_among (drop (i + 1) ks) k) (key_eq_self k)
 
-pub settled : (d : ℕ) (nodes : List Node) (c : Chains) (ks : List Key) (i : ℕ) → i < length ks → IsKept d nodes c (drop i ks) → IsFrontOpen (points d nodes) c (drop i ks) → IsKept d nodes c (drop (i + 1) ks)
+pub settled : (d : ℕ) (nodes : List GraphNode) (c : Chains) (ks : List Key) (i : ℕ) → i < length ks → IsKept d nodes c (drop i ks) → IsFrontOpen (points d nodes) c (drop i ks) → IsKept d nodes c (drop (i + 1) ks)
 settled d nodes c ks i lt kept front =
     let parts = drop_more ks i some_key lt in
     kept_settled d nodes c (slice_index_or ks i some_key) (drop (i + 1) ks) (subst (IsKept d nodes c) parts kept) (subst (IsFrontOpen (points d nodes) c) parts front)
 
-pub marked_is : (d : ℕ) (nodes now : List Node) (at : ℕ) (x : Node) → x ≡ slice_index_or nodes at x → at < length nodes
+pub marked_is : (d : ℕ) (nodes now : List GraphNode) (at : ℕ) (x : GraphNode) → x ≡ slice_index_or nodes at x → at < length nodes
     → map point_of now ≡ map point_of (slice_set nodes at (record x { finished = true })) → points d now ≡ mark_at (points d nodes) (d + at)
 marked_is d nodes now at x read lt same =
     ap (λ qs. replicate d gone ++ qs) same
     ∙ points_set d at nodes (record x { finished = true })
     ∙ ap (λ (p : Point). slice_set (points d nodes) (d + at) (record p { finished = true })) (sym (kept_at d at nodes x (sym read) lt))
 
-pub at_within : (nodes : List Node) (at i : ℕ) → i < length (keys_at nodes at) → at < length nodes
+pub at_within : (nodes : List GraphNode) (at i : ℕ) → i < length (keys_at nodes at) → at < length nodes
 at_within [] at i lt = absurd (omega (lt, arith))
 at_within (n ∷ nodes) zero i lt = omega arith
 at_within (n ∷ nodes) (suc at) i lt = let far = at_within nodes at i lt in omega (far, arith)
 
-pub key_inside : (nodes : List Node) (at i : ℕ) (x : Node) (k : Key) → i < length (keys_at nodes at) → x ≡ slice_index_or nodes at x → k ≡ slice_index_or x.keys.items i k → is_among (drop i (keys_at nodes at)) k ≡ true
+pub key_inside : (nodes : List GraphNode) (at i : ℕ) (x : GraphNode) (k : Key) → i < length (keys_at nodes at) → x ≡ slice_index_or nodes at x → k ≡ slice_index_or x.keys.items i k → is_among (drop i (keys_at nodes at)) k ≡ true
 key_inside nodes at i x k lt node key =
     late_here (keys_at nodes at) i k (key ∙ ap (λ ks. slice_index_or ks i k) (sym (keys_here nodes at x node (at_within nodes at i lt)))) lt
 
-pub front_open : (ps : List Point) (c : Chains) (nodes now : List Node) (at i : ℕ) (x : Node) (k : Key) → i < length (keys_at nodes at) → x ≡ slice_index_or nodes at x → k ≡ slice_index_or x.keys.items i k
+pub front_open : (ps : List Point) (c : Chains) (nodes now : List GraphNode) (at i : ℕ) (x : GraphNode) (k : Key) → i < length (keys_at nodes at) → x ≡ slice_index_or nodes at x → k ≡ slice_index_or x.keys.items i k
     → map point_of now ≡ map point_of nodes → ((n : ℕ) → first_of c k ≡ Some n → is_finished_at ps n ≡ false) → IsFrontOpen ps c (drop i (keys_at now at))
 front_open ps c nodes now at i x k lt node key same h =
     let ks = keys_at nodes at in

@@ -21,7 +21,7 @@ gone = record { finished = true; keys = [] }
 abbrev pub unfinished : List Key → Point
 unfinished keys = record { finished = false; keys = keys }
 
--- the first that passes, where the first of the list has this number
+-- the first that passes, if the first of the list has this number
 abbrev pub least : (Point → Bool) → ℕ → List Point → Option ℕ
 least p at [] = None
 least p at (x ∷ xs) = cond (p x) (Some at) (least p (suc at) xs)

@@ -2,9 +2,9 @@
 use Rattle.std.specs.Prelude.{ℕ, zero, suc, ◌+◌, ◌-◌, ◌*◌, ◌≡◌, ◌≤◌, ◌<◌, ◌⊎◌, Bool, false, not, ◌&&◌, cond, nat_lt, nat_eq, List, [], ◌∷◌, length, slice_index_or, Result, OnOk}
 use Rattle.dependency_graph.specs.declared.ready.Level.{Level}
 use Rattle.dependency_graph.specs.declared.ready.Ready.{Ready}
-use Rattle.dependency_graph.specs.declared.graph.Node.{Node}
+use Rattle.dependency_graph.specs.declared.graph.GraphNode.{GraphNode}
 
--- how many numbers from one on, of so many, pass
+-- how many of the k numbers from one on pass
 abbrev pub tally : (ℕ → Bool) → ℕ → ℕ → ℕ
 tally p at zero = 0
 tally p at (suc k) = cond (p at) 1 0 + tally p (suc at) k
@@ -43,7 +43,7 @@ Inserts n wanted old new = (base end : ℕ) (p q : ℕ → Bool) → base ≤ n 
 abbrev pub Removes : ℕ → Bool → Ready → Ready → Type 0
 Removes n was old new = (base end : ℕ) (p q : ℕ → Bool) → base ≤ n → n < end → Turns p q n was → IsListing old base end q → IsListing new base end p
 
--- what is listed from a number on stays so, where nothing below it passes
+-- what is listed from a number on stays so, if nothing below it passes
 abbrev pub Forgets : ℕ → Ready → Ready → Type 0
 Forgets base old new = (first end : ℕ) (p : ℕ → Bool) → first ≤ base → base ≤ end → ((m : ℕ) → m < base → p m ≡ false) → IsListing old first end p → IsListing new base end p
 
@@ -76,24 +76,24 @@ pub record Passes (old new : Level) (block : ℕ) : Type 0 where
   pub counts : (b : ℕ) → new.first ≤ b → count_at new b ≡ count_at old b
 
 -- an unfinished node that waits for no key
-abbrev pub is_unblocked : Node → Bool
+abbrev pub is_unblocked : GraphNode → Bool
 is_unblocked n = not n.finished && nat_eq n.waits 0
 
-abbrev pub is_unblocked_in : List Node → ℕ → Bool
+abbrev pub is_unblocked_in : List GraphNode → ℕ → Bool
 is_unblocked_in [] i = false
 is_unblocked_in (x ∷ xs) zero = is_unblocked x
 is_unblocked_in (x ∷ xs) (suc i) = is_unblocked_in xs i
 
--- the node with this number, where so many were dropped, is unfinished and waits for no key
-abbrev pub is_unblocked_at : ℕ → List Node → ℕ → Bool
+-- the node with this number, if `before` nodes were dropped, is unfinished and waits for no key
+abbrev pub is_unblocked_at : ℕ → List GraphNode → ℕ → Bool
 is_unblocked_at before nodes n = cond (nat_lt n before) false (is_unblocked_in nodes (n - before))
 
--- the nodes that may go are listed, where there are nodes
-abbrev pub IsListed : ℕ → List Node → Ready → Type 0
+-- the nodes that may go are listed, if there are nodes
+abbrev pub IsListed : ℕ → List GraphNode → Ready → Type 0
 IsListed before nodes r = 0 < length nodes → IsListing r before (before + length nodes) (is_unblocked_at before nodes)
 
 -- the nodes that may go are listed, with room for the next one
-abbrev pub IsListedWithRoom : ℕ → List Node → Ready → Type 0
+abbrev pub IsListedWithRoom : ℕ → List GraphNode → Ready → Type 0
 IsListedWithRoom before nodes r = IsListing r before (before + length nodes + 1) (is_unblocked_at before nodes)
 
 -- one block is kept, with none

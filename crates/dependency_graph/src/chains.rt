@@ -32,7 +32,7 @@ pub struct Chains {
     pub table: KeyTable<Key, Option<Ends>>,
 }
 
-/// The ends of a chain that ends with this edge now.
+/// The ends of a chain once this edge is appended.
 fn extend_ends(at: usize, before: Option<Ends>) -> Ends
     ensures { result ≡ extend_ends at before }
 {
@@ -43,7 +43,7 @@ fn extend_ends(at: usize, before: Option<Ends>) -> Ends
     Ends { first, last: at }
 }
 
-/// Gives the key an entry, if it has none.
+/// Ensures that the key has an entry.
 fn open_entry(table: &mut KeyTable<Key, Option<Ends>>, key: Key) -> Result<(), AllocError>
     ensures ok { OnOk result (IsOpened key table.old.entries table.new.entries) }
     ensures err { OnErr result (IsUnchanged table.old table.new) }
@@ -90,7 +90,7 @@ impl Chains {
         self.node_at(ends.first)
     }
 
-    /// Gives the key an entry.
+    /// Ensures that the key has an entry, and changes no chain.
     fn open(&mut self, key: &Key) -> Result<(), AllocError>
         ensures edges { self.new.edges ≡ self.old.edges }
         ensures same { (k : KeyValue) → ends_at self.new k ≡ ends_at self.old k }
@@ -127,7 +127,7 @@ impl Chains {
         };
     }
 
-    /// The key's chain ends with this edge now: the ends that it had.
+    /// Makes this edge the last of the key's chain; returns the ends that the chain had before.
     fn put_last(&mut self, key: &Key, at: usize) -> Option<Ends>
         requires { HasEntry self.old key.now }
         ensures edges { self.new.edges ≡ self.old.edges }
@@ -156,7 +156,7 @@ impl Chains {
         }
     }
 
-    /// Puts the node, later than all, at the end of the key's chain: whether the chain had a node.
+    /// Appends the node, which is later than all others, to the key's chain; returns whether the chain had a node.
     pub fn push(&mut self, key: &Key, node: usize) -> bool
         requires { HasRoom self.old (key.now ∷ []) }
         ensures pushes { HasLast self.old key.now → Pushes self.old self.new key.now node }
@@ -171,7 +171,7 @@ impl Chains {
         true
     }
 
-    /// Takes the first node out of the key's chain: the one that is first then.
+    /// Removes the first node of the key's chain; returns the one that is first then.
     pub fn pop(&mut self, key: &Key) -> Option<usize>
         ensures pops { PopsFirst self.old self.new key.now }
         ensures next { result ≡ first_of self.new key.now }
@@ -187,7 +187,7 @@ impl Chains {
         self.node_at(first)
     }
 
-    /// Takes away a key's entry.
+    /// Removes a key's entry.
     fn close(&mut self, key: &Key)
         ensures edges { self.new.edges ≡ self.old.edges }
         ensures ends { (k : KeyValue) → ends_at self.new k ≡ with_chain (ends_at self.old) key.now None k }

@@ -1,4 +1,4 @@
-//! The nodes, above the chains of their keys.
+//! The graph: nodes, over the chains of their keys.
 
 ghost use Rattle.std.specs.Prelude.{◌≡◌, ◌≢◌, ℕ, Some, true, false, ◌+◌, ◌<◌, [], ◌∷◌, ◌++◌, length, map, drop, IfOk, IfErr, OnOk, OnErr};
 ghost use Rattle.std.specs.List.{AllPairs};
@@ -18,7 +18,7 @@ use std::marker::Model;
 
 /// A node with its keys. An unfinished one counts the keys whose chain begins with an earlier node.
 #[derive(Drop)]
-struct Node {
+struct GraphNode {
     finished: bool,
     waits: usize,
     keys: Vec<Key>,
@@ -27,7 +27,7 @@ struct Node {
 /// Nodes from 0 on, each finished or not. The first `dropped` are finished, and the next is not.
 pub struct Graph {
     dropped: usize,
-    nodes: VecDeque<Node>,
+    nodes: VecDeque<GraphNode>,
     chains: Chains,
     ready: Ready,
 }
@@ -44,15 +44,15 @@ impl Drop for Graph {
     }
 }
 
-/// The node is unfinished and waits for no key.
-fn is_unblocked(node: &Node) -> bool
+/// Whether the node is unfinished and waits for no key.
+fn is_unblocked(node: &GraphNode) -> bool
     ensures { result ≡ is_unblocked node.now }
 {
     !node.finished && node.waits == 0
 }
 
-/// The first node is finished.
-fn starts_finished(nodes: &VecDeque<Node>) -> bool
+/// Whether the first node is finished.
+fn starts_finished(nodes: &VecDeque<GraphNode>) -> bool
     ensures { result ≡ is_finished_first nodes.now.items }
 {
     match nodes.front() {
@@ -61,8 +61,8 @@ fn starts_finished(nodes: &VecDeque<Node>) -> bool
     }
 }
 
-/// The node is finished. A number without a node counts as finished.
-fn is_finished(dropped: usize, nodes: &VecDeque<Node>, node: usize) -> bool
+/// Whether the node is finished. A number without a node counts as finished.
+fn is_finished(dropped: usize, nodes: &VecDeque<GraphNode>, node: usize) -> bool
     ensures { result ≡ is_finished_at (points dropped nodes.now.items) node }
 {
     if node < dropped {
@@ -74,8 +74,8 @@ fn is_finished(dropped: usize, nodes: &VecDeque<Node>, node: usize) -> bool
     }
 }
 
-/// An unfinished node that becomes the head of a chain waits for one key less.
-fn release(dropped: usize, nodes: &mut VecDeque<Node>, ready: &mut Ready, first: Option<usize>)
+/// Lets an unfinished node that becomes the head of a chain wait for one key less.
+fn release(dropped: usize, nodes: &mut VecDeque<GraphNode>, ready: &mut Ready, first: Option<usize>)
     requires { CanRelease dropped nodes.old.items first }
     ensures releases { Releases dropped nodes.old.items nodes.new.items first }
     ensures listed { IsListed dropped nodes.old.items ready.old → IsListed dropped nodes.new.items ready.new }
@@ -89,8 +89,12 @@ fn release(dropped: usize, nodes: &mut VecDeque<Node>, ready: &mut Ready, first:
     }
 }
 
-/// Makes room to list one node more.
-fn make_room(dropped: usize, nodes: &VecDeque<Node>, ready: &mut Ready) -> Result<(), AllocError>
+/// Makes room to list one more node.
+fn make_room(
+    dropped: usize,
+    nodes: &VecDeque<GraphNode>,
+    ready: &mut Ready,
+) -> Result<(), AllocError>
     requires { dropped + length nodes.now.items < 4294967294 }
     ensures same { IsListed dropped nodes.now.items ready.old → IsListed dropped nodes.now.items ready.new }
     ensures room { OnOk result (IsListed dropped nodes.now.items ready.old → IsListedWithRoom dropped nodes.now.items ready.new) }
@@ -102,7 +106,7 @@ fn make_room(dropped: usize, nodes: &VecDeque<Node>, ready: &mut Ready) -> Resul
 }
 
 /// Whether there is a node, and it is finished.
-fn is_done(dropped: usize, nodes: &VecDeque<Node>, node: Option<usize>) -> bool
+fn is_done(dropped: usize, nodes: &VecDeque<GraphNode>, node: Option<usize>) -> bool
     ensures done { OnTrue result ((n : ℕ) × (node ≡ Some n) × (is_finished_at (points dropped nodes.now.items) n ≡ true)) }
     ensures stands { OnFalse result ((n : ℕ) → node ≡ Some n → is_finished_at (points dropped nodes.now.items) n ≡ false) }
 {
@@ -112,10 +116,10 @@ fn is_done(dropped: usize, nodes: &VecDeque<Node>, node: Option<usize>) -> bool
     }
 }
 
-/// Takes a finished node off the head of the chain of a node's i-th key: whether one is there then.
+/// Takes a finished node off the head of the chain of a node's i-th key; returns whether another finished one is there then.
 fn pop_finished(
     dropped: usize,
-    nodes: &mut VecDeque<Node>,
+    nodes: &mut VecDeque<GraphNode>,
     chains: &mut Chains,
     ready: &mut Ready,
     at: usize,
@@ -144,7 +148,7 @@ fn pop_finished(
 /// Takes all finished nodes off the head of the chain of a node's i-th key.
 fn settle(
     dropped: usize,
-    nodes: &mut VecDeque<Node>,
+    nodes: &mut VecDeque<GraphNode>,
     chains: &mut Chains,
     ready: &mut Ready,
     at: usize,
@@ -162,7 +166,7 @@ fn settle(
 /// Marks a node as finished.
 fn mark(
     dropped: usize,
-    nodes: &mut VecDeque<Node>,
+    nodes: &mut VecDeque<GraphNode>,
     chains: &mut Chains,
     ready: &mut Ready,
     at: usize,
@@ -180,7 +184,7 @@ fn mark(
     }
 }
 
-/// Puts the node, later than all, into the chain of each key: how many of the keys have an earlier node.
+/// Appends the node, which is later than all others, to the chain of each key; returns how many of the keys have an earlier node.
 fn link(chains: &mut Chains, keys: &[Key], node: usize) -> usize
     requires room { HasRoom chains.old keys.now }
     requires distinct { AllPairs (λ a b. a ≢ b) keys.now }
@@ -232,7 +236,7 @@ impl Graph {
         self.dropped + self.nodes.len()
     }
 
-    /// Adds a node that touches these keys, each named once: its number.
+    /// Adds a node that touches these keys, each named once; returns its number.
     pub fn add(&mut self, keys: Vec<Key>) -> Result<usize, AllocError>
         requires room { length self.old < 4294967294 }
         requires distinct { AllPairs (λ a b. a ≢ b) keys.items }
@@ -244,7 +248,7 @@ impl Graph {
         let at = self.nodes.len();
         let number = self.dropped + at;
         make_room(self.dropped, &self.nodes, &mut self.ready)?;
-        let node = Node {
+        let node = GraphNode {
             finished: false,
             waits: 0,
             keys,
@@ -256,7 +260,7 @@ impl Graph {
         Ok(number)
     }
 
-    /// Adds a finished node without keys, where all nodes are finished. Does not allocate.
+    /// Adds a finished node without keys to a graph whose nodes are all finished. It does not allocate.
     pub fn add_finished(&mut self)
         requires room { length self.old < 4294967294 }
         requires finished { are_finished self.old ≡ true }
@@ -266,7 +270,7 @@ impl Graph {
         self.nodes.clear();
     }
 
-    /// The node is finished, and the longest finished prefix is dropped.
+    /// Marks the node as finished, and drops the longest finished prefix.
     pub fn finish(&mut self, node: usize)
         requires { node < length self.old }
         ensures { self.new ≡ finish_at self.old node }
@@ -317,7 +321,7 @@ impl Graph {
         least
     }
 
-    /// No earlier unfinished node has a common key.
+    /// Whether no earlier unfinished node has a common key.
     pub fn is_ready(&self, node: usize) -> bool
         requires { node < length self.now }
         ensures { result ≡ is_ready self.now node }
@@ -332,7 +336,7 @@ impl Graph {
         here.waits == 0
     }
 
-    /// The least unfinished ready node from there.
+    /// The least unfinished node from this number on that is ready.
     pub fn next_ready(&self, from: usize) -> Option<usize>
         ensures { IsNextReady self.now from result }
     {
@@ -353,11 +357,11 @@ impl Graph {
     }
 }
 
-/// A graph with room for one node more, which can then be added, or not, without memory.
+/// A graph with room for one more node, which can then be added or left out without an allocation.
 #[derive(Drop)]
 pub struct Reserved {
     dropped: usize,
-    nodes: VecDeque<Node>,
+    nodes: VecDeque<GraphNode>,
     chains: Chains,
     ready: Ready,
 }
@@ -377,7 +381,7 @@ impl Model for Reserved {
 }
 
 impl Graph {
-    /// Makes room for a node that touches these keys, each named once. Without memory the graph comes back.
+    /// Makes room for a node that touches these keys, each named once. If out of memory, it gives the graph back.
     pub fn reserve(self, keys: Vec<Key>) -> Result<Reserved, Graph>
         requires room { length self < 4294967294 }
         requires distinct { AllPairs (λ a b. a ≢ b) keys.items }
@@ -406,7 +410,7 @@ impl Graph {
                 ready,
             });
         };
-        let node = Node {
+        let node = GraphNode {
             finished: false,
             waits: 0,
             keys,

@@ -51,7 +51,7 @@ impl Level {
         Ok(())
     }
 
-    /// Counts one more in a block.
+    /// Adds one to the count of a block.
     fn raise(&mut self, block: usize)
         ensures { Raises self.old self.new block }
     {
@@ -61,7 +61,7 @@ impl Level {
         }
     }
 
-    /// Counts one less in a block.
+    /// Takes one from the count of a block.
     fn lower(&mut self, block: usize)
         ensures { Lowers self.old self.new block }
     {
@@ -71,7 +71,7 @@ impl Level {
         }
     }
 
-    /// Drops the first block, if it is before a block.
+    /// Drops the first block if it comes before this one.
     fn pass(&mut self, block: usize)
         ensures { Passes self.old self.new block }
     {
@@ -82,7 +82,7 @@ impl Level {
         }
     }
 
-    /// Whether a block has none.
+    /// Whether no number of a block is ready.
     fn is_bare(&self, block: usize) -> bool
         ensures { result ≡ true → count_at self.now block ≡ 0 }
     {
@@ -127,7 +127,7 @@ impl Ready {
         Ok(())
     }
 
-    /// Makes room for a number, where none is ready. What was kept of others is forgotten.
+    /// Makes room for a number when none is ready, and forgets what was kept of others.
     pub fn restart(&mut self, number: usize) -> Result<(), AllocError>
         ensures { OnOk result ((p : ℕ → Bool) → ((m : ℕ) → p m ≡ false) → IsListing self.new number (number + 1) p) }
     {
@@ -137,7 +137,7 @@ impl Ready {
         Ok(())
     }
 
-    /// A number is ready now, if it is wanted.
+    /// Makes a number ready, if that is wanted.
     pub fn insert_if(&mut self, number: usize, wanted: bool)
         ensures { Inserts number wanted self.old self.new }
     {
@@ -148,7 +148,7 @@ impl Ready {
         }
     }
 
-    /// A number is not ready any more, if it was.
+    /// Makes a number not ready, if it was ready.
     pub fn remove_if(&mut self, number: usize, was: bool)
         ensures { Removes number was self.old self.new }
     {
@@ -159,7 +159,7 @@ impl Ready {
         }
     }
 
-    /// The numbers below this one are gone. From number to number it keeps up: it drops a block of each size at most.
+    /// Drops all numbers below `base`. A call drops at most one block of each size, which is enough if `base` grows by one.
     pub fn pass(&mut self, base: usize)
         ensures { Forgets base self.old self.new }
     {
@@ -168,7 +168,7 @@ impl Ready {
         self.large.pass(base / LARGE);
     }
 
-    /// So many numbers, from this one on, are not ready.
+    /// A count of numbers from this one on that are not ready: at most 262,144, and perhaps fewer than there are.
     pub fn skip(&self, number: usize) -> usize
         ensures bare { (base end : ℕ) (p : ℕ → Bool) → IsListing self.now base end p → (m : ℕ) → number ≤ m → m < number + result → p m ≡ false }
         ensures small { result ≤ 262144 }

@@ -7,9 +7,10 @@ use Rattle.std.specs.Ordering.{eq_by_cmp}
 use Rattle.std.proofs.lemmas.Bool.{or_parts}
 use Rattle.std.proofs.lemmas.Bool.Decides.{nat_tests}
 use Rattle.std.proofs.lemmas.Option.{same_Some, slice_get_within, slice_get-map}
+use Rattle.lemmas.proofs.SameGtid.{gtid_total, same_is_equal, same_itself}
+use Rattle.lemmas.proofs.Lists.{get_append_left, get_append_within}
 use Rattle.gtid_text.specs.declared.Gtid.{Gtid}
 use Rattle.gtid_text.specs.Gtids.{gtid_cmp, same_gtid}
-use Rattle.gtid_text.proofs.SameGtid.{gtid_total, same_is_equal, same_itself}
 use Rattle.gtid_set.specs.Sets.{Gtids}
 use Rattle.gtid_set.proofs.SetLemmas.{gtid_tied}
 use Rattle.journal.specs.declared.Entry.{Entry}
@@ -46,16 +47,6 @@ none_in t (e ∷ es) i s h at = by (t e) refl h i at (λ k j there. none_in t es
     by true is k j there next = absurd cc
     by false is k zero there next = sym (ap t (same_Some e s there)) ∙ is
     by false is k (suc j) there next = next k j there
-
-get_front : {A : Type 0} (xs ys : List A) (i : ℕ) (x : A) → slice_get xs i ≡ Some x → slice_get (xs ++ ys) i ≡ Some x
-get_front [] ys i x h = absurd cc
-get_front (y ∷ xs) ys zero x h = h
-get_front (y ∷ xs) ys (suc i) x h = get_front xs ys i x h
-
-get_back : {A : Type 0} (xs ys : List A) (i : ℕ) (x : A) → i < length xs → slice_get (xs ++ ys) i ≡ Some x → slice_get xs i ≡ Some x
-get_back [] ys i x within h = absurd (omega (arith, within))
-get_back (y ∷ xs) ys zero x within h = h
-get_back (y ∷ xs) ys (suc i) x within h = get_back xs ys i x (omega (arith, within)) h
 
 get_mid : {A : Type 0} (xs : List A) (y : A) (ys : List A) → slice_get (xs ++ y ∷ ys) (length xs) ≡ Some y
 get_mid [] y ys = refl
@@ -162,7 +153,7 @@ module _ (place : Gtid → Option ℕ) where
         p = p;
         q = later.0;
         ordered = slice_get_within seen found.0 s found.1;
-        first = gtid_at (seen ++ e ∷ es) found.0 s (get_front seen (e ∷ es) found.0 s found.1);
+        first = gtid_at (seen ++ e ∷ es) found.0 s (get_append_left seen (e ∷ es) found.0 s found.1);
         second = gtid_at (seen ++ e ∷ es) (length seen) e (get_mid seen e es);
         here = at;
         there = later.1;
@@ -198,7 +189,7 @@ module _ (place : Gtid → Option ℕ) where
       → slice_get (gtids (seen ++ e ∷ es)) i ≡ Some g → place g ≡ Some q → p < q → ⊥
   none_here seen e es g i p q none at within is there less =
       let s = entry_at (seen ++ e ∷ es) i g is in
-      let stands : slice_get seen i ≡ Some s.0 = get_back seen (e ∷ es) i s.0 within s.1 in
+      let stands : slice_get seen i ≡ Some s.0 = get_append_within seen (e ∷ es) i s.0 within s.1 in
       let empty : inversion_by place seen e (Some p) ≡ None = sym (ap (inversion_by place seen e) at) ∙ none in
       let unfound : find (λ x. is_after p (place x.gtid)) seen ≡ None = map_none (λ (x : Entry). x.gtid) _ (map_none (λ (g : Gtid). record { earlier = g; later = e.gtid }) _ empty) in
       let off : is_after p (place s.0.gtid) ≡ false = none_in (λ x. is_after p (place x.gtid)) seen i s.0 unfound stands in

@@ -1,7 +1,7 @@
 //! Where in its text a bundle has what a verdict or a refusal names, how the transactions that two journals have under one GTID differ,
 //! and which channels of a sound bundle preserve commit order but bring transactions in opposite orders (`two_orders_are_found`).
 //!
-//! Each text is one definition (`explain_verdict`, `explain_refusal`). Where a call fails, memory was refused.
+//! Each text is one definition (`explain_verdict`, `explain_refusal`). A call fails only if out of memory.
 //!
 //! Cost: one pass over the lines for each GTID that is shown, and at most four passes over the entries to compare transactions. For each
 //! channel that preserves commit order there is one table of its entries' indexes, in which the entries of each later channel are looked up.

@@ -48,7 +48,7 @@ fn behind_word(line: &[u8]) -> &[u8]
     }
 }
 
-/// The word after so many others.
+/// The word after this many others.
 pub(crate) fn word_at(line: &[u8], place: usize) -> &[u8]
     ensures { result.now ≡ word_at place line.now }
 {

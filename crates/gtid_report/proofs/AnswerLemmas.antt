@@ -3,6 +3,8 @@ use Rattle.std.proofs.Common.{◌≡◌, ◌⊎◌, ℕ, Bool, true, false, ◌&
 use Rattle.std.specs.Prelude.{◌==◌, ◌↔◌, IsTrue, Option, Result, Ok, Err}
 use Rattle.std.specs.FinSet as set
 use Rattle.std.proofs.lemmas.Bool.Decides.{nat_tests}
+use Rattle.lemmas.proofs.SameGtid.{gtid_total}
+use Rattle.lemmas.proofs.Tests.{same_bool}
 use Rattle.gtid_text.specs.Reading.{answer, source_in}
 use Rattle.gtid_text.specs.Gtids.{gtid_cmp}
 use Rattle.gtid_text.specs.declared.SourceId.{SourceId}
@@ -14,7 +16,6 @@ use Rattle.gtid_set.specs.declared.fault.SetTextFault.TheVariants.{Text, Set}
 use Rattle.gtid_set.specs.Sets.{Gtids}
 use Rattle.gtid_set.specs.Texts.{set_in}
 use Rattle.gtid_set.proofs.SetLemmas.{same_members}
-use Rattle.gtid_set.proofs.SetSources.{same_bool}
 use Rattle.gtid_report.specs.Faults.{text_fault, set_fault}
 use Rattle.gtid_report.specs.SetAnswers.{named_set, named_source, set_word, source_word, test_line, of_two, line_of, function_line}
 use Rattle.gtid_report.specs.declared.fault.Fault.{Fault}
@@ -23,7 +24,6 @@ use Rattle.gtid_report.specs.SetFunctions.{function_named}
 use Rattle.gtid_report.specs.declared.functions.Function.{Function}
 use Rattle.gtid_report.specs.declared.functions.TwoSets.{TwoSets}
 use Rattle.gtid_report.specs.declared.functions.TwoSets.TheVariants.{Equal, Disjoint}
-use Rattle.gtid_text.proofs.SameGtid.{gtid_total}
 
 pub word_set : (text : List ℕ) (s : Gtids) → set_in text ≡ Ok s → set_word text ≡ Ok s
 unfolding set_word

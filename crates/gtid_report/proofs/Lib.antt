@@ -1,4 +1,2 @@
 pub mod AnswerLemmas
-pub mod OwnedLemmas
-pub mod ToldLemmas
 pub mod ImageLemmas

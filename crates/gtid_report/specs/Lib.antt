@@ -6,4 +6,3 @@ pub mod Verdicts
 pub mod State
 pub mod VerdictLines
 pub mod Positions
-pub mod Status

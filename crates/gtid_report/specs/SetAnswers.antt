@@ -51,7 +51,7 @@ source_word text = named_source (answer (length text) (source_in text))
 
 -- ---- answers
 
--- a set, where it has not too many intervals
+-- a set, if it has not too many intervals
 abbrev pub small : Gtids → Result Gtids Fault
 small s = if nat_lt most_intervals (interval_count s) then Err (Refused PoolFull) else Ok s
 
@@ -59,7 +59,7 @@ small s = if nat_lt most_intervals (interval_count s) then Err (Refused PoolFull
 abbrev pub small_line : Gtids → Result (List ℕ) Fault
 small_line s = small s >>= λ kept. Ok (canonical kept)
 
--- the same where it has not too many sources either
+-- the same if it has not too many sources either
 abbrev pub set_line : Gtids → Result (List ℕ) Fault
 set_line s = if nat_lt most_sources (source_count s) then Err (Refused SourcesFull) else small_line s
 
@@ -115,7 +115,7 @@ line_of (Some (Source f)) a b = source_line f a b
 unfoldable pub function_line : List ℕ → List ℕ → Option (List ℕ) → Result (List ℕ) Fault
 function_line name a b = line_of (function_named name) a b
 
--- The view of what a function returned is the answer, unless memory was refused.
+-- The view of what a function returned is the answer, unless out of memory.
 abbrev pub Answers : {X Y : Type 0} → (X → Y) → Result X Fault → Result Y Fault → Type 0
 Answers view (Ok x) want = want ≡ Ok (view x)
 Answers view (Err e) want = (e ≡ Memory) ⊎ (want ≡ Err e)

@@ -10,7 +10,7 @@ use std::alloc::AllocError;
 /// Why there is no answer.
 #[derive(Clone, Copy, Debug, PartialEq, Eq, Drop)]
 pub enum Fault {
-    /// Memory was refused.
+    /// Out of memory.
     Memory,
     /// The content is refused.
     Refused(Refusal),

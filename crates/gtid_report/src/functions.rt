@@ -279,10 +279,10 @@ fn source_line(alloc: Global, function: OfSource, a: &str, b: Option<&str>) -> R
     }
 }
 
-/// The line of a function of sets, without the line feed: the function's name, its first word, and its second word where one is given.
+/// The line of a function of sets, without the line feed: the function's name, its first word, and its second word if one is given.
 ///
-/// The words are texts of sets, and the second word of `only` and `without` is a UUID. `E30` denotes an unknown name or a wrong
-/// number of words, and comes before the words are read; where both words are bad the first is named. The names are our own.
+/// The words are texts of sets, and the second word of `only` and `without` is a UUID. `E30` denotes an unknown name or a wrong number of
+/// words, and comes before the words are read; if both words are bad, the first is named. The names are our own.
 pub fn set_function(alloc: Global, name: &str, a: &str, b: Option<&str>) -> Result<String, Fault>
     ensures { Answers string_bytes result (function_line name.now a.now (option_map (λ w. w.now) b.entry)) }
 {

@@ -1,16 +1,12 @@
-//! The lines that the programs print: refusals, verdicts, states, what a source sends, the status of a replica, and the answers of set
-//! functions.
+//! The lines that the programs print: refusals, verdicts, states, what a source sends, and the answers of set functions.
 //!
 //! What a contract sees: each line as a definition over the value that it prints, and the text as the list of its bytes: `render_fault`
-//! gives exactly `refusal_line`, `render_verdict` exactly `verdict_line`, `render_state` exactly `state_text`, `status` exactly
-//! `status_text`. The lines are those of docs/FORMATS.md, section 7, and docs/SCRIPTS.md.
+//! gives exactly `refusal_line`, `render_verdict` exactly `verdict_line`, `render_state` exactly `state_text`. The lines are those of
+//! docs/FORMATS.md, section 7, and docs/SCRIPTS.md.
 //!
 //! `set_function` answers a function by its name and words: E30 for an unknown name or a wrong number of words; else the refusal of the
-//! first bad word; else the canonical text, the number, or 1 or 0; else E9 or E8 where a set is full (`function_line`). The names beside
+//! first bad word; else the canonical text, the number, or 1 or 0; else E9 or E8 if a set is full (`function_line`). The names beside
 //! GTID_SUBSET and GTID_SUBTRACT are ours (MySQL 8.0 Reference Manual, "Functions Used with Global Transaction Identifiers (GTIDs)").
-//!
-//! A status has an owned GTID with its seat, in the order of GTIDs, where MySQL's `gtid_owned` has the thread. `each_owner_is_listed` is the
-//! law that no seat is lost by that order.
 //!
 //! Not proved: what is left of a text when an allocation fails within `push_row_fault` or `render_rows`; each caller drops the text then.
 #![tactic(auto)]
@@ -20,7 +16,6 @@ mod from_journal;
 mod functions;
 mod position;
 mod refusal;
-mod replica_status;
 mod state;
 mod verdict;
 mod verdict_line;
@@ -29,7 +24,6 @@ pub use fault::Fault;
 pub use functions::{Function, OfSource, OneSet, TwoSets, read_set, read_source, set_function};
 pub use position::{render_more, render_required, render_sending};
 pub use refusal::{LineCause, Refusal, push_number, render_fault};
-pub use replica_status::{each_owner_is_listed, status};
 pub use state::{push_set, render_executed, render_lent_rows, render_rows, render_state};
 pub use verdict::{push_row_fault, render_does_not_apply};
 pub use verdict_line::render_verdict;

@@ -87,7 +87,7 @@ fn push_word(out: &mut String, spans: &[Span]) -> Result<(), AllocError>
     push_spans(out, spans)
 }
 
-/// Appends the word of a set: its canonical text, or `-` where it is empty.
+/// Appends the word of a set: its canonical text, or `-` if it is empty.
 pub fn push_set(alloc: Global, out: &mut String, set: &GtidSet) -> Result<(), AllocError>
     ensures { OnOk result (string_bytes out.new ≡ string_bytes out.old ++ set_text set.now) }
 {
@@ -95,7 +95,7 @@ pub fn push_set(alloc: Global, out: &mut String, set: &GtidSet) -> Result<(), Al
     push_word(out, &spans)
 }
 
-/// The line of an executed set, `-` where it is empty.
+/// The line of an executed set, `-` if it is empty.
 pub fn render_executed(alloc: Global, executed: &GtidSet) -> Result<String, AllocError>
     ensures { IfOk result (λ text. string_bytes text ≡ executed_line executed.now) }
 {
@@ -105,8 +105,8 @@ pub fn render_executed(alloc: Global, executed: &GtidSet) -> Result<String, Allo
     Ok(text)
 }
 
-/// The printed lines of a state: the executed set, `-` where it is empty, and then each row, by the name of its
-/// table and then by the values of its primary key. The words and their order are our own.
+/// The printed lines of a state: the executed set, `-` if it is empty, and then each row, by the name of its table and then by the values
+/// of its primary key. The words and their order are our own.
 pub fn render_state(alloc: Global, executed: &GtidSet, rows: &Rows) -> Result<String, AllocError>
     ensures { IfOk result (λ text. string_bytes text ≡ state_text executed.now rows.now.rows) }
 {

@@ -3,13 +3,14 @@ use Rattle.std.proofs.Common.{◌≡◌, ◌<◌, ◌≤◌, ◌+◌, ◌⊎◌,
 use Rattle.std.specs.FinSet as set
 use Rattle.std.specs.Prelude.{Err}
 use Rattle.std.specs.List.{list_all}
-use Rattle.std.proofs.lemmas.Bool.{and_parts, and_from}
+use Rattle.std.proofs.lemmas.Bool.{and_parts, and_from, or_right}
 use Rattle.std.proofs.lemmas.Bool.Decides.{nat_tests}
 use Rattle.std.proofs.lemmas.List.Folds.{list_any-append}
+use Rattle.lemmas.proofs.SameGtid.{gtid_total}
+use Rattle.lemmas.proofs.Tests.{or_none}
 use Rattle.interval_pool.specs.declared.interval.Interval.{Interval}
 use Rattle.interval_pool.specs.Intervals.{has as has_number}
 use Rattle.gtid_text.specs.declared.Gtid.{Gtid}
-use Rattle.gtid_text.proofs.SameGtid.{gtid_total}
 use Rattle.gtid_text.specs.declared.Span.{Span}
 use Rattle.gtid_set.specs.declared.combine.Operation.{Operation}
 use Rattle.gtid_set.specs.declared.combine.Operation.TheVariants.{Union, Difference, Intersection}
@@ -42,10 +43,6 @@ combines_some : (o : Operation) (a b : Bool) → combines o a b ≡ true → (a 
 combines_some o true b e = inl refl
 combines_some o false true e = inr refl
 combines_some o false false e = absurd (let n = sym (combines_none o) ∙ e in cc)
-
-pub or_none : (b : Bool) → (b || false) ≡ b
-or_none true = refl
-or_none false = refl
 
 -- of the source that is taken, and of the others
 taken_here : (o : Operation) (h a b : Bool) → (h || combines o (a || false) (b || false)) ≡ ((h || combines o a b) || combines o false false)
@@ -100,10 +97,6 @@ source_from bound (t ∷ ss) q from e = split (within t q) refl (source_from bou
     split : (b : Bool) → within t q ≡ b → (has ss q ≡ true → nat_le bound q.source ≡ true) → nat_le bound q.source ≡ true
     split true b later = its b w.0
     split false b later = later (sym (ap (λ c. c || has ss q) b) ∙ e)
-
-or_later : (a b : Bool) → b ≡ true → (a || b) ≡ true
-or_later true b e = refl
-or_later false b e = e
 
 -- ---- a set that is being made
 
@@ -214,7 +207,7 @@ made_short o s out left right h =
     each (t ∷ ss) m all =
         let head = merged_head t ss m in
         and_from (nat_le h.bound t.source) (are_from h.bound ss) (all (start_of t) (ap (λ b. b || has ss (start_of t)) (start_within t head.filled)))
-        (each ss head.tail (λ q e. all q (or_later (within t q) (has ss q) e)))
+        (each ss head.tail (λ q e. all q (or_right (within t q) (has ss q) e)))
 
     from : are_from h.bound (runs others) ≡ true
     from = each (runs others) (runs_are_merged others) within_from

@@ -1,7 +1,8 @@
 -- Two sets compared source by source.
 use Rattle.std.proofs.Common.{◌≡◌, ℕ, Bool, true, false, ◌&&◌, ◌||◌, ◌==◌, List, refl, sym, ap, ◌∙◌, arith}
-use Rattle.std.proofs.lemmas.Bool.{and_parts}
+use Rattle.std.proofs.lemmas.Bool.{and_parts, or_right, or_left}
 use Rattle.std.proofs.lemmas.Bool.Decides.{nat_tests}
+use Rattle.lemmas.proofs.Tests.{or_none}
 use Rattle.interval_pool.specs.declared.interval.Interval.{Interval}
 use Rattle.interval_pool.specs.Intervals.{has as has_number}
 use Rattle.gtid_text.specs.declared.Gtid.{Gtid}
@@ -24,18 +25,6 @@ pub record IsPassing (b : Bool) (left right left' right' : List Span) : Type 0 w
 
 pub passing : (b : Bool) (left right : List Span) → is_merged left ≡ true → is_merged right ≡ true → IsPassing b left right left right
 passing b left right l r = record { left_merged = l; right_merged = r; still = λ q e. e; same = λ q e. refl; done = λ q e none. absurd (let n = sym e ∙ none in cc) }
-
-or_later : (a b : Bool) → b ≡ true → (a || b) ≡ true
-or_later true b e = refl
-or_later false b e = e
-
-or_first : (a b : Bool) → a ≡ true → (a || b) ≡ true
-or_first true b e = refl
-or_first false b e = absurd cc
-
-or_none : (b : Bool) → (b || false) ≡ b
-or_none true = refl
-or_none false = refl
 
 -- what is left has no number of the source that is taken
 other_source : (id : ℕ) (ss : List Span) (q : Gtid) → are_above id ss ≡ true → has ss q ≡ true → (q.source == id) ≡ false
@@ -66,13 +55,13 @@ passed_more b left right left' right' left'' right'' id mine theirs h l r all = 
     rest = parts_of right' id theirs right'' r
 
     more : (q : Gtid) → has left'' q ≡ true → has left' q ≡ true
-    more q e = first.has q ∙ or_later (has (spans_as id mine) q) (has left'' q) e
+    more q e = first.has q ∙ or_right (has (spans_as id mine) q) (has left'' q) e
 
     split : (q : Gtid) (c : Bool) → has (spans_as id mine) q ≡ c → has left q ≡ true → has left'' q ≡ false → has right q ≡ b
     split q true c a none =
         let own = own_source id mine q c in
         let there = all (gtid 0 q.number) (sym (has_here id mine q own) ∙ c) in
-        sym (h.same q (first.has q ∙ or_first (has (spans_as id mine) q) (has left'' q) c)) ∙ rest.has q
+        sym (h.same q (first.has q ∙ or_left (has (spans_as id mine) q) (has left'' q) c)) ∙ rest.has q
         ∙ (λ i. has_here id theirs q own i || has_above id right'' q r.above own i) ∙ or_none (has (all_numbered theirs) (gtid 0 q.number)) ∙ there
     split q false c a none = h.done q a (first.has q ∙ (λ i. c i || none i))
 
@@ -85,7 +74,7 @@ passed_found b x left right left' right' left'' right'' id mine theirs h l r q a
     let hit : (g.source == id) ≡ true = itself id in
     let mine_has = has_span_of id mine g ∙ (λ i. (hit ∙ sym own) i && has_number mine q.number) ∙ sym (has_span_of 0 mine q) ∙ a in
     let theirs_has = has_span_of id theirs g ∙ (λ i. (hit ∙ sym own) i && has_number theirs q.number) ∙ sym (has_span_of 0 theirs q) ∙ n in
-    let first = (parts_of left' id mine left'' l).has g ∙ or_first (has (spans_as id mine) g) (has left'' g) mine_has in
+    let first = (parts_of left' id mine left'' l).has g ∙ or_left (has (spans_as id mine) g) (has left'' g) mine_has in
     let rest = (parts_of right' id theirs right'' r).has g ∙ (λ i. theirs_has i || has_above id right'' g r.above hit i) ∙ or_none x in
     (g, h.still g first, sym (h.same g first) ∙ rest)
   where

@@ -4,7 +4,7 @@ use Rattle.interval_pool.specs.declared.interval.Interval.{Interval}
 use Rattle.interval_pool.specs.Values.{Held, PoolValue, cells_of, spans, first_cell, Follows, Covers}
 use Rattle.std.proofs.lemmas.List.{drop-map}
 use Rattle.gtid_text.specs.declared.Span.{Span}
-use Rattle.gtid_set.specs.declared.sources.Source.{Source}
+use Rattle.gtid_set.specs.declared.sources.SourceList.{SourceList}
 use Rattle.gtid_set.specs.declared.cursor.Place.{Place}
 use Rattle.gtid_set.specs.Kept.{span_of, spans_of, spans_behind, sources_at, IsPlaceIn, IsAt, IsCursor, cursor_view}
 
@@ -44,7 +44,7 @@ next_here p l passed cell at next follows =
     follows l (take passed (cells_of p l)) r.held (drop (passed + 1) (cells_of p l)) r.parts r.cell
 
 -- after the last place of a list come the spans of the next source
-list_ends : (p : PoolValue) (sources : List Source) (behind : List ℕ) (at : Place) → at.next ≡ None → IsPlaceIn p at.source at.passed at → spans_of p (sources_at sources behind) ≡ spans_behind p sources behind at
+list_ends : (p : PoolValue) (sources : List SourceList) (behind : List ℕ) (at : Place) → at.next ≡ None → IsPlaceIn p at.source at.passed at → spans_of p (sources_at sources behind) ≡ spans_behind p sources behind at
 list_ends p sources behind at none place =
     let numbers : Held → Interval = λ h. h.numbers in
     sym (ap (λ xs. map (span_of at.source.id) xs ++ spans_of p (sources_at sources behind))
@@ -64,19 +64,19 @@ long_enough (h ∷ hs) (suc n) i e = let l = long_enough hs n i e in omega (arit
 -- ---- what a cursor sees
 
 -- its place
-pub stands : (p : PoolValue) (sources : List Source) (behind : List ℕ) (now : Option Place) (at : Place) → now ≡ Some at → IsCursor p sources behind now → IsAt p sources behind at
+pub stands : (p : PoolValue) (sources : List SourceList) (behind : List ℕ) (now : Option Place) (at : Place) → now ≡ Some at → IsCursor p sources behind now → IsAt p sources behind at
 stands p sources behind now at e is = subst (IsCursor p sources behind) e is
 
-pub first_seen : (p : PoolValue) (sources : List Source) (behind : List ℕ) (now : Option Place) (at : Place) (ss : List Span) → now ≡ Some at → IsCursor p sources behind now → cursor_view p sources behind now ≡ ss
+pub first_seen : (p : PoolValue) (sources : List SourceList) (behind : List ℕ) (now : Option Place) (at : Place) (ss : List Span) → now ≡ Some at → IsCursor p sources behind now → cursor_view p sources behind now ≡ ss
     → ss ≡ span_of at.source.id at.numbers ∷ spans_behind p sources behind at
 first_seen p sources behind now at ss e is view =
     sym view ∙ ap (cursor_view p sources behind) e
     ∙ ap (λ xs. map (span_of at.source.id) xs ++ spans_of p (sources_at sources behind)) (stands p sources behind now at e is).place.numbers
 
-pub behind_seen : (p : PoolValue) (sources : List Source) (behind : List ℕ) (now : Option Place) (at : Place) (ss : List Span) → now ≡ Some at → IsCursor p sources behind now → cursor_view p sources behind now ≡ ss
+pub behind_seen : (p : PoolValue) (sources : List SourceList) (behind : List ℕ) (now : Option Place) (at : Place) (ss : List Span) → now ≡ Some at → IsCursor p sources behind now → cursor_view p sources behind now ≡ ss
     → spans_behind p sources behind at ≡ drop 1 ss
 behind_seen p sources behind now at ss e is view = sym (ap (drop 1) (first_seen p sources behind now at ss e is view))
 
-pub source_seen : (p : PoolValue) (sources : List Source) (behind : List ℕ) (now : Option Place) (at : Place) (ss : List Span) → now ≡ Some at → IsCursor p sources behind now → cursor_view p sources behind now ≡ ss → at.next ≡ None
+pub source_seen : (p : PoolValue) (sources : List SourceList) (behind : List ℕ) (now : Option Place) (at : Place) (ss : List Span) → now ≡ Some at → IsCursor p sources behind now → cursor_view p sources behind now ≡ ss → at.next ≡ None
     → spans_of p (sources_at sources behind) ≡ drop 1 ss
 source_seen p sources behind now at ss e is view none = list_ends p sources behind at none (stands p sources behind now at e is).place ∙ behind_seen p sources behind now at ss e is view

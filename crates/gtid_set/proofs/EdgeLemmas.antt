@@ -8,10 +8,11 @@ use Rattle.std.proofs.lemmas.Bool.{or_cases, or_left, or_right}
 use Rattle.std.proofs.lemmas.Bool.Decides.{nat_tests}
 use Rattle.std.proofs.lemmas.List.{length-append}
 use Rattle.std.proofs.lemmas.List.Folds.{list_any-append}
+use Rattle.lemmas.proofs.SameGtid.{gtid_total, gtid_exact, same_itself, same_is_equal}
+use Rattle.lemmas.proofs.Tests.{and_false}
 use Rattle.gtid_text.specs.declared.Gtid.{Gtid}
 use Rattle.gtid_text.specs.declared.Span.{Span}
 use Rattle.gtid_text.specs.Gtids.{gtid_cmp, same_gtid}
-use Rattle.gtid_text.proofs.SameGtid.{gtid_total, gtid_exact, same_itself, same_is_equal}
 use Rattle.gtid_set.specs.Sets.{Gtids, gtid, only}
 use Rattle.gtid_set.specs.Spans.{has, is_merged, is_before}
 use Rattle.gtid_set.specs.Sweep.{within}
@@ -54,10 +55,6 @@ before_none s ss g after near = any_none (λ t. within t (number_before g)) (is_
     past : (t : Span) → is_before s t ≡ true → is_near s g ≡ true → within t (number_before g) ≡ false
     past t b near = grind (arith, nat_tests)
 
-and_none : (b : Bool) → (b && false) ≡ false
-and_none true = refl
-and_none false = refl
-
 abbrev first_of : Span → Gtid
 first_of s = gtid s.source s.lo
 
@@ -99,7 +96,7 @@ edges_in (s ∷ ss) g m =
     cases true near h rest =
         let now = later_none s ss g h.after near in
         let past = before_none s ss g h.after near in
-        let quiet : among g (ends_of ss) ≡ false = rest ∙ (λ i. differ (now i) (not (g.number == 0) && past i)) ∙ ap (differ false) (and_none (not (g.number == 0))) in
+        let quiet : among g (ends_of ss) ≡ false = rest ∙ (λ i. differ (now i) (not (g.number == 0) && past i)) ∙ ap (differ false) (and_false (not (g.number == 0))) in
         (λ i. same_gtid g (first_of s) || (same_gtid g (behind_of s) || quiet i))
         ∙ near_edges s g h.filled near
         ∙ sym (λ i. differ (within s g || now i) (not (g.number == 0) && (within s (number_before g) || past i)))
@@ -131,7 +128,7 @@ contains-edges s g =
 fresh : (s : Span) (ss : List Span) (g : Gtid) → is_merged (s ∷ ss) ≡ true → is_near s g ≡ true → among g (ends_of ss) ≡ false
 fresh s ss g m near =
     let h = merged_head s ss m in
-    edges_in ss g h.tail ∙ (λ i. differ (later_none s ss g h.after near i) (not (g.number == 0) && before_none s ss g h.after near i)) ∙ ap (differ false) (and_none (not (g.number == 0)))
+    edges_in ss g h.tail ∙ (λ i. differ (later_none s ss g h.after near i) (not (g.number == 0) && before_none s ss g h.after near i)) ∙ ap (differ false) (and_false (not (g.number == 0)))
 
 one_more : (gs : List Gtid) (g : Gtid) → among g gs ≡ false → set.len (set.from_list {R = gtid_cmp} (g ∷ gs)) ≡ set.len (set.from_list {R = gtid_cmp} gs) + 1
 one_more gs g new =

@@ -3,6 +3,7 @@ use Rattle.std.proofs.Common.{◌≡◌, ◌≢◌, ◌<◌, ◌⊎◌, inl, inr
 use Rattle.std.specs.List.{list_all}
 use Rattle.std.proofs.lemmas.Bool.{and_parts, and_from}
 use Rattle.std.proofs.lemmas.Bool.Decides.{nat_tests}
+use Rattle.lemmas.proofs.Tests.{or_assoc, or_none}
 use Rattle.interval_pool.specs.declared.interval.Interval.{Interval}
 use Rattle.gtid_text.specs.declared.Gtid.{Gtid}
 use Rattle.gtid_text.specs.declared.Span.{Span}
@@ -13,8 +14,8 @@ use Rattle.gtid_set.specs.Sweep.{Joins, all_start_by, is_sorted, is_from, start_
 use Rattle.gtid_set.specs.Kept.{span_of, spans_as, interval_of}
 use Rattle.gtid_set.specs.Numbers.{numbered, all_numbered}
 use Rattle.gtid_set.specs.BySource.{are_from, are_above, BeginsWith, JoinsSource}
-use Rattle.gtid_set.proofs.SpanLemmas.{all_weaker, starts_later, or_assoc}
-use Rattle.gtid_set.proofs.CombineLemmas.{IsMaking, has_here, has_there, or_none, made_more, nothing_left, begins_from}
+use Rattle.gtid_set.proofs.SpanLemmas.{all_weaker, starts_later}
+use Rattle.gtid_set.proofs.CombineLemmas.{IsMaking, has_here, has_there, made_more, nothing_left, begins_from}
 
 -- what was joined of a source, and what is left
 pub record IsJoining (spans : List Span) (id : ℕ) (run : List Interval) (rest : List Span) : Type 0 where

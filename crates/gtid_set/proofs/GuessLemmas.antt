@@ -4,14 +4,14 @@ use Rattle.std.specs.List.{AllByRecursion, IsDistinct, list_all, list_any, slice
 use Rattle.std.proofs.lemmas.Bool.{and_parts}
 use Rattle.std.proofs.lemmas.Bool.Decides.{nat_tests}
 use Rattle.std.proofs.lemmas.Map.Steps.{length-le_from_distinct_below}
-use Rattle.gtid_set.specs.declared.sources.Source.{Source}
+use Rattle.gtid_set.specs.declared.sources.SourceList.{SourceList}
 use Rattle.gtid_set.specs.Kept.{source_at, sources_at, are_places, are_ascending, are_others, IsSourceOf, IsSourceAt, IsNoSourceAt, IsSourcePlace}
 use Rattle.gtid_set.proofs.BlockLemmas.{listed_got}
 use Rattle.gtid_set.proofs.KeptLemmas.{others_at}
 
 -- ---- places of ascending sources, no two of them equal
 
-apart : (sources : List Source) (i : ℕ) (is : List ℕ) → list_all (λ u. nat_lt (source_at sources i).id u.id) (sources_at sources is) ≡ true → AllByRecursion (λ j. (i == j) ≡ false) is
+apart : (sources : List SourceList) (i : ℕ) (is : List ℕ) → list_all (λ u. nat_lt (source_at sources i).id u.id) (sources_at sources is) ≡ true → AllByRecursion (λ j. (i == j) ≡ false) is
 apart sources i [] all = tt
 apart sources i (j ∷ is) all =
     let w = and_parts (nat_lt (source_at sources i).id (source_at sources j).id) (list_all (λ u. nat_lt (source_at sources i).id u.id) (sources_at sources is)) all in
@@ -27,7 +27,7 @@ apart sources i (j ∷ is) all =
     other true e lt = absurd (below_itself (source_at sources i).id (ap (λ k. nat_lt (source_at sources i).id (source_at sources k).id) (same e) ∙ lt))
     other false e lt = e
 
-distinct : (sources : List Source) (is : List ℕ) → are_ascending (sources_at sources is) ≡ true → IsDistinct (λ a b. a == b) is
+distinct : (sources : List SourceList) (is : List ℕ) → are_ascending (sources_at sources is) ≡ true → IsDistinct (λ a b. a == b) is
 unfolding IsDistinct
 distinct sources [] rising = tt
 distinct sources (i ∷ is) rising =
@@ -91,7 +91,7 @@ at_index i (j ∷ is) any = cases (i == j) refl any (at_index i is)
     cases false e any rest = let found = rest any in (suc found.0, found.1)
 
 -- the source at a place is one of those in order
-pub source_there : (sources : List Source) (order : List ℕ) (i id : ℕ) → are_places sources order ≡ true → length order ≡ length sources → are_ascending (sources_at sources order) ≡ true → i < length sources → (source_at sources i).id ≡ id
+pub source_there : (sources : List SourceList) (order : List ℕ) (i id : ℕ) → are_places sources order ≡ true → length order ≡ length sources → are_ascending (sources_at sources order) ≡ true → i < length sources → (source_at sources i).id ≡ id
     → IsSourceOf (sources_at sources order) (source_at sources i) id
 source_there sources order i id places many rising lt same =
     let at = at_index i order (all_there i (length sources) order places many (distinct sources order rising) lt) in
@@ -99,14 +99,14 @@ source_there sources order i id places many rising lt same =
 
 -- ---- what is at a source's place, for all of them
 
-pub searched_some : (ss : List Source) (id at : ℕ) (r : Option Source) → IfSome r (IsSourceAt ss at id) → IfSome r (λ s. IsSourceOf ss s id)
+pub searched_some : (ss : List SourceList) (id at : ℕ) (r : Option SourceList) → IfSome r (IsSourceAt ss at id) → IfSome r (λ s. IsSourceOf ss s id)
 searched_some ss id at None some = some
 searched_some ss id at (Some s) some = record { at = at; got = some.got; same = some.same }
 
-pub searched_none : {HasSeat : Type 0} (ss : List Source) (id at : ℕ) (r : Option Source) → are_ascending ss ≡ true → IsSourcePlace ss id at → HasSeat → IfNone r (HasSeat → IsNoSourceAt ss at id) → IfNone r (are_others id ss ≡ true)
+pub searched_none : {HasSeat : Type 0} (ss : List SourceList) (id at : ℕ) (r : Option SourceList) → are_ascending ss ≡ true → IsSourcePlace ss id at → HasSeat → IfNone r (HasSeat → IsNoSourceAt ss at id) → IfNone r (are_others id ss ≡ true)
 searched_none ss id at None rising place seat none = others_at ss id at rising place (none seat)
 searched_none ss id at (Some s) rising place seat none = none
 
 -- one of the sources is at its place
-pub placed : {ss : List Source} {s : Source} {id : ℕ} (is : IsSourceOf ss s id) → IsSourceAt ss is.at id s
+pub placed : {ss : List SourceList} {s : SourceList} {id : ℕ} (is : IsSourceOf ss s id) → IsSourceAt ss is.at id s
 placed is = record { got = is.got; same = is.same }

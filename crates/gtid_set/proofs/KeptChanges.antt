@@ -6,13 +6,14 @@ use Rattle.std.proofs.lemmas.Bool.{and_parts, and_from}
 use Rattle.std.proofs.lemmas.Bool.Decides.{nat_tests}
 use Rattle.std.proofs.lemmas.List.{length-append, take-append-drop, get_or_append_left}
 use Rattle.std.proofs.Math.Seq.{get_or-append_seam}
+use Rattle.lemmas.proofs.Tests.{or_swap}
 use Rattle.interval_pool.specs.declared.interval.Interval.{Interval}
 use Rattle.interval_pool.specs.Chains.{IsAmong}
 use Rattle.interval_pool.specs.Intervals.{IsBefore, AreMerged, IsApart, has as has_number, covers as covers_number}
 use Rattle.interval_pool.specs.Values.{PoolValue, spans, is_list, AddedTo}
 use Rattle.gtid_text.specs.declared.Gtid.{Gtid}
 use Rattle.gtid_text.specs.declared.Span.{Span}
-use Rattle.gtid_set.specs.declared.sources.Source.{Source}
+use Rattle.gtid_set.specs.declared.sources.SourceList.{SourceList}
 use Rattle.gtid_set.specs.Sets.{gtid, interval}
 use Rattle.gtid_set.specs.Spans.{set_of, is_before, is_merged, has}
 use Rattle.gtid_set.specs.Sweep.{within, KnowsSource}
@@ -31,7 +32,7 @@ or_turn true false = refl
 or_turn false true = refl
 or_turn false false = refl
 
-pub knows_added : (p q : PoolValue) (ss : List Source) (at : ℕ) (s : Source) (t : Span) (g : Gtid) → are_ascending ss ≡ true → have_own ss ≡ true → slice_get ss at ≡ Some s → s.id ≡ t.source
+pub knows_added : (p q : PoolValue) (ss : List SourceList) (at : ℕ) (s : SourceList) (t : Span) (g : Gtid) → are_ascending ss ≡ true → have_own ss ≡ true → slice_get ss at ≡ Some s → s.id ≡ t.source
     → AddedTo p s.list (interval_of t) q → knows q ss g ≡ (within t g || knows p ss g)
 knows_added p q ss at s t g r own e same added = split (g.source == s.id) refl
   where
@@ -54,7 +55,7 @@ has_some (i ∷ is) n e = positive (length is)
     positive : (n : ℕ) → nat_lt 0 (suc n) ≡ true
     positive n = grind (arith, nat_tests)
 
-pub filled_added : (p q : PoolValue) (l : ℕ) (t : Span) → t.lo ≤ t.hi → AddedTo p l (interval_of t) q → (s : Source) → is_filled p s ≡ true → is_filled q s ≡ true
+pub filled_added : (p q : PoolValue) (l : ℕ) (t : Span) → t.lo ≤ t.hi → AddedTo p l (interval_of t) q → (s : SourceList) → is_filled p s ≡ true → is_filled q s ≡ true
 filled_added p q l t le added s filled = split (s.list == l) refl
   where
     w : (is_list p s.list ≡ true) × (nat_lt 0 (length (spans p s.list)) ≡ true)
@@ -77,7 +78,7 @@ filled_added p q l t le added s filled = split (s.list == l) refl
         and_from (is_list q s.list) (nat_lt 0 (length (spans q s.list))) (added.lists s.list ∙ w.0) (ap (λ is. nat_lt 0 (length is)) (same_at p q s.list (added.others s.list other)) ∙ w.1)
 
 -- the first number of a source that has intervals
-pub first_number : (p : PoolValue) (ss : List Source) (at : ℕ) (s : Source) → are_ascending ss ≡ true → slice_get ss at ≡ Some s → list_all (is_filled p) ss ≡ true → ((l : ℕ) → AreMerged (spans p l)) → KnowsSource true (spans_of p ss) s.id
+pub first_number : (p : PoolValue) (ss : List SourceList) (at : ℕ) (s : SourceList) → are_ascending ss ≡ true → slice_get ss at ≡ Some s → list_all (is_filled p) ss ≡ true → ((l : ℕ) → AreMerged (spans p l)) → KnowsSource true (spans_of p ss) s.id
 first_number p ss at s r e filled merged = given (spans p s.list) refl
   where
     some : nat_lt 0 (length (spans p s.list)) ≡ true
@@ -107,11 +108,6 @@ pub record IsPut (t : Span) (ss new : List Span) : Type 0 where
   pub longer : length new ≡ length ss + 1
   pub has : (q : Gtid) → has new q ≡ (within t q || has ss q)
   pub later : (u : Span) → is_before u t ≡ true → list_all (is_before u) ss ≡ true → list_all (is_before u) new ≡ true
-
-or_swap : (a b c : Bool) → (a || (b || c)) ≡ (b || (a || c))
-or_swap true true c = refl
-or_swap true false c = refl
-or_swap false b c = refl
 
 pub is_put : (t : Span) (ss : List Span) → is_merged ss ≡ true → t.lo ≤ t.hi → list_all (is_apart t) ss ≡ true → IsPut t ss (put t ss)
 is_put t [] m le apart = record {
@@ -164,7 +160,7 @@ one_more ss t m le apart =
 apart_less : (t s : Span) → not (t.source == s.source) ≡ true → is_apart t s ≡ true
 apart_less t s ne = grind (arith, nat_tests)
 
-pub apart_others : (p : PoolValue) (ss : List Source) (t : Span) → are_others t.source ss ≡ true → list_all (is_apart t) (spans_of p ss) ≡ true
+pub apart_others : (p : PoolValue) (ss : List SourceList) (t : Span) → are_others t.source ss ≡ true → list_all (is_apart t) (spans_of p ss) ≡ true
 apart_others p [] t others = refl
 apart_others p (s ∷ ss) t others =
     let w = and_parts (not (t.source == s.id)) (are_others t.source ss) others in
@@ -182,18 +178,18 @@ apart_in id (i ∷ is) t same a = and_from (is_apart t (span_of id i)) (list_all
     one (inl b) = let lt : i.hi + 1 < t.lo = b in grind (arith, nat_tests)
     one (inr b) = let lt : t.hi + 1 < i.lo = b in grind (arith, nat_tests)
 
-pub apart_at : (p : PoolValue) (ss : List Source) (at : ℕ) (s : Source) (t : Span) → are_ascending ss ≡ true → slice_get ss at ≡ Some s → s.id ≡ t.source → IsApart (spans p s.list) (interval_of t) → list_all (is_apart t) (spans_of p ss) ≡ true
+pub apart_at : (p : PoolValue) (ss : List SourceList) (at : ℕ) (s : SourceList) (t : Span) → are_ascending ss ≡ true → slice_get ss at ≡ Some s → s.id ≡ t.source → IsApart (spans p s.list) (interval_of t) → list_all (is_apart t) (spans_of p ss) ≡ true
 apart_at p [] zero s t r e same a = absurd cc
 apart_at p [] (suc n) s t r e same a = absurd cc
 apart_at p (u ∷ us) zero s t r e same a =
     let is : u ≡ s = cc in
     let w = and_parts (list_all (λ v. nat_lt u.id v.id) us) (are_ascending us) r in
     all_joined (is_apart t) (spans_in p u) (spans_of p us)
-    (apart_in u.id (spans p u.list) t (sym same ∙ sym (ap (λ (v : Source). v.id) is)) (subst (λ (v : Source). IsApart (spans p v.list) (interval_of t)) (sym is) a))
+    (apart_in u.id (spans p u.list) t (sym same ∙ sym (ap (λ (v : SourceList). v.id) is)) (subst (λ (v : SourceList). IsApart (spans p v.list) (interval_of t)) (sym is) a))
     (apart_others p us t (all_weaker (λ v. nat_lt u.id v.id) (λ v. not (t.source == v.id)) us (λ v lt. differs v lt is) w.0))
   where
-    differs : (v : Source) → nat_lt u.id v.id ≡ true → u ≡ s → not (t.source == v.id) ≡ true
-    differs v lt is = let k : t.source ≡ u.id = sym same ∙ sym (ap (λ (v : Source). v.id) is) in grind (arith, nat_tests)
+    differs : (v : SourceList) → nat_lt u.id v.id ≡ true → u ≡ s → not (t.source == v.id) ≡ true
+    differs v lt is = let k : t.source ≡ u.id = sym same ∙ sym (ap (λ (v : SourceList). v.id) is) in grind (arith, nat_tests)
 apart_at p (u ∷ us) (suc n) s t r e same a =
     let w = and_parts (list_all (λ v. nat_lt u.id v.id) us) (are_ascending us) r in
     let lt = got_all (λ v. nat_lt u.id v.id) us n s w.0 e in
@@ -206,18 +202,18 @@ apart_at p (u ∷ us) (suc n) s t r e same a =
 -- ---- a source more
 
 -- sources with one at a place
-abbrev pub with_source : List Source → ℕ → Source → List Source
+abbrev pub with_source : List SourceList → ℕ → SourceList → List SourceList
 with_source ss at s = take at ss ++ s ∷ drop at ss
 
-pub all_with : (test : Source → Bool) (ss : List Source) (at : ℕ) (s : Source) → list_all test ss ≡ true → test s ≡ true → list_all test (with_source ss at s) ≡ true
+pub all_with : (test : SourceList → Bool) (ss : List SourceList) (at : ℕ) (s : SourceList) → list_all test ss ≡ true → test s ≡ true → list_all test (with_source ss at s) ≡ true
 all_with test ss zero s all h = and_from (test s) (list_all test ss) h all
 all_with test [] (suc n) s all h = and_from (test s) true h refl
 all_with test (t ∷ ts) (suc n) s all h = let w = and_parts (test t) (list_all test ts) all in and_from (test t) (list_all test (with_source ts n s)) w.0 (all_with test ts n s w.1 h)
 
-pub rising_with : (ss : List Source) (at : ℕ) (s : Source) → are_ascending ss ≡ true → IsSourcePlace ss s.id at → are_others s.id ss ≡ true → are_ascending (with_source ss at s) ≡ true
+pub rising_with : (ss : List SourceList) (at : ℕ) (s : SourceList) → are_ascending ss ≡ true → IsSourcePlace ss s.id at → are_others s.id ss ≡ true → are_ascending (with_source ss at s) ≡ true
 rising_with ss zero s r place others = and_from (list_all (λ u. nat_lt s.id u.id) ss) (are_ascending ss) (all_weaker2 (λ u. not (s.id == u.id)) (λ u. not (nat_lt u.id s.id)) (λ u. nat_lt s.id u.id) ss (λ u ne ge. more u ne ge) others place.behind) r
   where
-    more : (u : Source) → not (s.id == u.id) ≡ true → not (nat_lt u.id s.id) ≡ true → nat_lt s.id u.id ≡ true
+    more : (u : SourceList) → not (s.id == u.id) ≡ true → not (nat_lt u.id s.id) ≡ true → nat_lt s.id u.id ≡ true
     more u ne ge = grind (arith, nat_tests)
 rising_with [] (suc n) s r place others = refl
 rising_with (t ∷ ts) (suc n) s r place others =
@@ -227,7 +223,7 @@ rising_with (t ∷ ts) (suc n) s r place others =
     and_from (list_all (λ u. nat_lt t.id u.id) (with_source ts n s)) (are_ascending (with_source ts n s)) (all_with (λ u. nat_lt t.id u.id) ts n s w.0 b.0)
     (rising_with ts n s w.1 (record { bound = omega (arith, bound); before = b.1; behind = place.behind }) (and_parts (not (s.id == t.id)) (are_others s.id ts) others).1)
 
-pub own_with : (ss : List Source) (at : ℕ) (s : Source) → have_own ss ≡ true → list_all (λ t. not (t.list == s.list)) ss ≡ true → have_own (with_source ss at s) ≡ true
+pub own_with : (ss : List SourceList) (at : ℕ) (s : SourceList) → have_own ss ≡ true → list_all (λ t. not (t.list == s.list)) ss ≡ true → have_own (with_source ss at s) ≡ true
 own_with ss zero s own apart = and_from (list_all (λ t. not (t.list == s.list)) ss) (have_own ss) apart own
 own_with [] (suc n) s own apart = refl
 own_with (t ∷ ts) (suc n) s own apart =
@@ -235,17 +231,17 @@ own_with (t ∷ ts) (suc n) s own apart =
     let a = and_parts (not (t.list == s.list)) (list_all (λ t. not (t.list == s.list)) ts) apart in
     and_from (list_all (λ u. not (u.list == t.list)) (with_source ts n s)) (have_own (with_source ts n s)) (all_with (λ u. not (u.list == t.list)) ts n s w.0 (turn t a.0)) (own_with ts n s w.1 a.1)
   where
-    turn : (t : Source) → not (t.list == s.list) ≡ true → not (s.list == t.list) ≡ true
+    turn : (t : SourceList) → not (t.list == s.list) ≡ true → not (s.list == t.list) ≡ true
     turn t h = grind (arith, nat_tests)
 
-pub among_with : (ss : List Source) (at : ℕ) (s : Source) (l : ℕ) → (l ≡ s.list) ⊎ IsAmong l (lists_of ss) → IsAmong l (lists_of (with_source ss at s))
+pub among_with : (ss : List SourceList) (at : ℕ) (s : SourceList) (l : ℕ) → (l ≡ s.list) ⊎ IsAmong l (lists_of ss) → IsAmong l (lists_of (with_source ss at s))
 among_with ss zero s l h = h
 among_with [] (suc n) s l h = h
 among_with (t ∷ ts) (suc n) s l (inl e) = inr (among_with ts n s l (inl e))
 among_with (t ∷ ts) (suc n) s l (inr (inl e)) = inl e
 among_with (t ∷ ts) (suc n) s l (inr (inr a)) = inr (among_with ts n s l (inr a))
 
-pub knows_with : (p : PoolValue) (ss : List Source) (at : ℕ) (s : Source) (g : Gtid) → knows p (with_source ss at s) g ≡ (((g.source == s.id) && has_number (spans p s.list) g.number) || knows p ss g)
+pub knows_with : (p : PoolValue) (ss : List SourceList) (at : ℕ) (s : SourceList) (g : Gtid) → knows p (with_source ss at s) g ≡ (((g.source == s.id) && has_number (spans p s.list) g.number) || knows p ss g)
 knows_with p ss zero s g = refl
 knows_with p [] (suc n) s g = refl
 knows_with p (t ∷ ts) (suc n) s g =
@@ -253,7 +249,7 @@ knows_with p (t ∷ ts) (suc n) s g =
     ∙ or_swap ((g.source == t.id) && has_number (spans p t.list) g.number) ((g.source == s.id) && has_number (spans p s.list) g.number) (knows p ts g)
 
 -- the sources at places, with one more after them
-map_places : (sources : List Source) (s : Source) (is : List ℕ) → are_places sources is ≡ true → sources_at (sources ++ s ∷ []) is ≡ sources_at sources is
+map_places : (sources : List SourceList) (s : SourceList) (is : List ℕ) → are_places sources is ≡ true → sources_at (sources ++ s ∷ []) is ≡ sources_at sources is
 map_places sources s [] all = refl
 map_places sources s (i ∷ is) all =
     let w = and_parts (nat_lt i (length sources)) (are_places sources is) all in
@@ -262,7 +258,7 @@ map_places sources s (i ∷ is) all =
     less : nat_lt i (length sources) ≡ true → i < length sources
     less lt = grind (arith, nat_tests)
 
-pub listed_with : (sources : List Source) (order : List ℕ) (s : Source) (at : ℕ) → are_places sources order ≡ true → sources_at (sources ++ s ∷ []) (take at order ++ length sources ∷ drop at order) ≡ with_source (sources_at sources order) at s
+pub listed_with : (sources : List SourceList) (order : List ℕ) (s : SourceList) (at : ℕ) → are_places sources order ≡ true → sources_at (sources ++ s ∷ []) (take at order ++ length sources ∷ drop at order) ≡ with_source (sources_at sources order) at s
 listed_with sources order s zero all = (λ i. last_is i ∷ map_places sources s order all i)
   where
     last_is : source_at (sources ++ s ∷ []) (length sources) ≡ s
@@ -275,7 +271,7 @@ listed_with sources (i ∷ is) s (suc n) all =
     less : nat_lt i (length sources) ≡ true → i < length sources
     less lt = grind (arith, nat_tests)
 
-pub places_with : (sources : List Source) (order : List ℕ) (s : Source) (at : ℕ) → are_places sources order ≡ true → are_places (sources ++ s ∷ []) (take at order ++ length sources ∷ drop at order) ≡ true
+pub places_with : (sources : List SourceList) (order : List ℕ) (s : SourceList) (at : ℕ) → are_places sources order ≡ true → are_places (sources ++ s ∷ []) (take at order ++ length sources ∷ drop at order) ≡ true
 places_with sources order s at all =
     let long : length (sources ++ s ∷ []) ≡ length sources + 1 = length-append sources (s ∷ []) in
     let w = all_parts (λ i. nat_lt i (length sources)) (take at order) (drop at order) (ap (are_places sources) (take-append-drop at order) ∙ all) in

@@ -20,7 +20,7 @@ use Rattle.gtid_text.specs.declared.Gtid.{Gtid}
 use Rattle.gtid_text.specs.declared.Span.{Span}
 use Rattle.gtid_set.specs.declared.fault.SetFault.{SetFault}
 use Rattle.gtid_set.specs.declared.fault.SetFault.TheVariants.{Memory, PoolFull, SourcesFull}
-use Rattle.gtid_set.specs.declared.sources.Source.{Source}
+use Rattle.gtid_set.specs.declared.sources.SourceList.{SourceList}
 use Rattle.gtid_set.specs.Sets.{Gtids, gtid, interval, source_count, most_sources}
 use Rattle.gtid_set.specs.Spans.{set_of, is_before, is_merged, has}
 use Rattle.gtid_set.specs.Sweep.{within, all_before, IsListOf, KnowsSource}
@@ -41,21 +41,21 @@ pub record IsLawful (p : PoolValue) : Type 0 where
   pub merged : (l : ℕ) → AreMerged (spans p l)
   pub parted : IsPartition p
 
-once_of : (ss : List Source) → have_own ss ≡ true → AreOnce (lists_of ss)
+once_of : (ss : List SourceList) → have_own ss ≡ true → AreOnce (lists_of ss)
 once_of [] own = tt
 once_of (s ∷ ss) own =
     let w = and_parts (list_all (λ t. not (t.list == s.list)) ss) (have_own ss) own in
     (others ss w.0, once_of ss w.1)
   where
-    differs : (t : Source) → not (t.list == s.list) ≡ true → t.list ≢ s.list
+    differs : (t : SourceList) → not (t.list == s.list) ≡ true → t.list ≢ s.list
     differs t o k = absurd (grind (arith, nat_tests))
 
-    others : (ts : List Source) → list_all (λ t. not (t.list == s.list)) ts ≡ true → AllByRecursion (λ j. j ≢ s.list) (lists_of ts)
+    others : (ts : List SourceList) → list_all (λ t. not (t.list == s.list)) ts ≡ true → AllByRecursion (λ j. j ≢ s.list) (lists_of ts)
     others [] all = tt
     others (t ∷ ts) all = let w = and_parts (not (t.list == s.list)) (list_all (λ t. not (t.list == s.list)) ts) all in (differs t w.0, others ts w.1)
 
 -- the spans are no more than the cells
-pub small_flat : (p : PoolValue) (ss : List Source) → IsLawful p → have_own ss ≡ true → length (spans_of p ss) ≤ most_intervals
+pub small_flat : (p : PoolValue) (ss : List SourceList) → IsLawful p → have_own ss ≡ true → length (spans_of p ss) ≤ most_intervals
 small_flat p ss law own =
     let l = flat_length p ss in
     let d = distinct_stand p (lists_of ss) (once_of ss own) in
@@ -64,7 +64,7 @@ small_flat p ss law own =
     omega (arith, l, d, c, s)
 
 -- a full pool has as many intervals as there may be
-pub full_flat : (p : PoolValue) (ss : List Source) → AreAmong p (lists_of ss) → IsFull p → most_intervals ≤ length (spans_of p ss)
+pub full_flat : (p : PoolValue) (ss : List SourceList) → AreAmong p (lists_of ss) → IsFull p → most_intervals ≤ length (spans_of p ss)
 full_flat p ss known full =
     let l = flat_length p ss in
     let w = stand_within p (lists_of ss) known in
@@ -76,13 +76,13 @@ full_flat p ss known full =
 abbrev pub with_span : Gtids → Span → Gtids
 with_span s t = set.union s (interval t.source t.lo t.hi)
 
-known_count : (p : PoolValue) (sources : List Source) (order : List ℕ) (s : Source) (t : Span) → IsKeptIn p sources order → ((l : ℕ) → AreMerged (spans p l)) → IsSourceOf (sources_at sources order) s t.source → t.lo ≤ t.hi
+known_count : (p : PoolValue) (sources : List SourceList) (order : List ℕ) (s : SourceList) (t : Span) → IsKeptIn p sources order → ((l : ℕ) → AreMerged (spans p l)) → IsSourceOf (sources_at sources order) s t.source → t.lo ≤ t.hi
     → length order ≡ source_count (with_span (set_of (flat p sources order)) t)
 known_count p sources order s t kept merged of le =
     len_known (flat p sources order) t.source (length order) kept.counted (subst (KnowsSource true (flat p sources order)) of.same (first_number p (sources_at sources order) of.at s kept.rising of.got kept.filled merged))
     ∙ count_with (flat p sources order) (flat p sources order) (set_of (flat p sources order)) t.source t.lo t.hi refl refl le
 
-pub grown_at : (p q : PoolValue) (sources : List Source) (order : List ℕ) (s : Source) (t : Span) → IsKeptIn p sources order → ((l : ℕ) → AreMerged (spans p l)) → IsSourceOf (sources_at sources order) s t.source → t.lo ≤ t.hi
+pub grown_at : (p q : PoolValue) (sources : List SourceList) (order : List ℕ) (s : SourceList) (t : Span) → IsKeptIn p sources order → ((l : ℕ) → AreMerged (spans p l)) → IsSourceOf (sources_at sources order) s t.source → t.lo ≤ t.hi
     → AddedTo p s.list (interval_of t) q → IsLawful q → Grown p sources order t q sources order
 grown_at p q sources order s t kept merged of le added law =
     let ss = sources_at sources order in
@@ -108,7 +108,7 @@ grown_at p q sources order s t kept merged of le added law =
 
 -- ---- why there is no room
 
-pub fault_at : (p : PoolValue) (sources : List Source) (order : List ℕ) (s : Source) (t : Span) (f : PoolFault) → IsKeptIn p sources order → ((l : ℕ) → AreMerged (spans p l)) → IsSourceOf (sources_at sources order) s t.source → t.lo ≤ t.hi
+pub fault_at : (p : PoolValue) (sources : List SourceList) (order : List ℕ) (s : SourceList) (t : Span) (f : PoolFault) → IsKeptIn p sources order → ((l : ℕ) → AreMerged (spans p l)) → IsSourceOf (sources_at sources order) s t.source → t.lo ≤ t.hi
     → IsApart (spans p s.list) (interval_of t) → (f ≡ pools.Full → IsFull p) → IsFullExactly {T = Unit {0}} (Err (fault_of f)) (with_span (set_of (flat p sources order)) t)
 fault_at p sources order s t pools.Memory kept merged of le apart full = let c = known_count p sources order s t kept merged of le in let few = kept.few in omega (arith, c, few)
 fault_at p sources order s t pools.Full kept merged of le apart full =
@@ -119,7 +119,7 @@ fault_at p sources order s t pools.Full kept merged of le apart full =
     (omega (arith, c, few), omega (arith, m, f))
 
 -- spans that have grown are of no set that is too large
-pub fits_grown : (p q : PoolValue) (sources sources' : List Source) (order order' : List ℕ) (t : Span) → Grown p sources order t q sources' order' → IsFullExactly {T = Unit {0}} (Ok tt) (with_span (set_of (flat p sources order)) t)
+pub fits_grown : (p q : PoolValue) (sources sources' : List SourceList) (order order' : List ℕ) (t : Span) → Grown p sources order t q sources' order' → IsFullExactly {T = Unit {0}} (Ok tt) (with_span (set_of (flat p sources order)) t)
 fits_grown p q sources sources' order order' t grown =
     let same = added_set (flat p sources order) (flat q sources' order') (set_of (flat p sources order)) t refl grown.list in
     let c = grown.kept.counted ∙ ap source_count same in
@@ -130,7 +130,7 @@ fits_grown p q sources sources' order order' t grown =
 
 -- ---- a source more
 
-unknown_count : (p : PoolValue) (sources : List Source) (order : List ℕ) (t : Span) → IsKeptIn p sources order → are_others t.source (sources_at sources order) ≡ true → t.lo ≤ t.hi
+unknown_count : (p : PoolValue) (sources : List SourceList) (order : List ℕ) (t : Span) → IsKeptIn p sources order → are_others t.source (sources_at sources order) ≡ true → t.lo ≤ t.hi
     → length order + 1 ≡ source_count (with_span (set_of (flat p sources order)) t)
 unknown_count p sources order t kept others le =
     len_unknown (flat p sources order) t.source (length order) kept.counted (λ n. has_spans_of p (sources_at sources order) (gtid t.source n) ∙ knows_none p (sources_at sources order) (gtid t.source n) others)
@@ -141,10 +141,10 @@ not_there None e h = absurd cc
 not_there (Some x) e h = absurd cc
 
 -- its list is none of the others
-apart_lists : (p : PoolValue) (ss : List Source) (l : ℕ) → slot_at p l ≡ None → list_all (is_filled p) ss ≡ true → list_all (λ t. not (t.list == l)) ss ≡ true
+apart_lists : (p : PoolValue) (ss : List SourceList) (l : ℕ) → slot_at p l ≡ None → list_all (is_filled p) ss ≡ true → list_all (λ t. not (t.list == l)) ss ≡ true
 apart_lists p ss l none filled = all_weaker (is_filled p) (λ t. not (t.list == l)) ss (λ t f. other t f) filled
   where
-    other : (t : Source) → is_filled p t ≡ true → not (t.list == l) ≡ true
+    other : (t : SourceList) → is_filled p t ≡ true → not (t.list == l) ≡ true
     other t f = split (t.list == l) refl
       where
         split : (b : Bool) → (t.list == l) ≡ b → not b ≡ true
@@ -154,12 +154,12 @@ apart_lists p ss l none filled = all_weaker (is_filled p) (λ t. not (t.list == 
             let is = (and_parts (is_list p t.list) (nat_lt 0 (length (spans p t.list))) f).0 in
             absurd (not_there (slot_at p l) none (sym (ap (is_list p) same) ∙ is))
 
-pub grown_with : (p q : PoolValue) (sources : List Source) (order : List ℕ) (at l : ℕ) (t : Span) → IsKeptIn p sources order → IsSourcePlace (sources_at sources order) t.source at → are_others t.source (sources_at sources order) ≡ true
+pub grown_with : (p q : PoolValue) (sources : List SourceList) (order : List ℕ) (at l : ℕ) (t : Span) → IsKeptIn p sources order → IsSourcePlace (sources_at sources order) t.source at → are_others t.source (sources_at sources order) ≡ true
     → t.lo ≤ t.hi → length order < most_sources → Lists p l (interval_of t) q → IsLawful q
     → Grown p sources order t q (sources ++ record { id = t.source; list = l } ∷ []) (take at order ++ length sources ∷ drop at order)
 grown_with p q sources order at l t kept place others le few lists law =
     let ss = sources_at sources order in
-    let s : Source = record { id = t.source; list = l } in
+    let s : SourceList = record { id = t.source; list = l } in
     let order' = take at order ++ length sources ∷ drop at order in
     let sources' = sources ++ s ∷ [] in
     let same : sources_at sources' order' ≡ with_source ss at s = listed_with sources order s at kept.places in
@@ -201,12 +201,12 @@ grown_with p q sources order at l t kept place others le few lists law =
     now_filled : IsLawful q → is_filled q (record { id = t.source; list = l }) ≡ true
     now_filled law = and_from (is_list q l) (nat_lt 0 (length (spans q l))) lists.now (has_some (spans q l) t.lo (lists.numbers t.lo ∙ covered))
 
-    still : (u : Source) → not (u.list == l) ≡ true → is_filled p u ≡ true → is_filled q u ≡ true
+    still : (u : SourceList) → not (u.list == l) ≡ true → is_filled p u ≡ true → is_filled q u ≡ true
     still u o f =
         let other : u.list ≢ l = (λ k. absurd (let m = k in grind (arith, nat_tests))) in
         ap (λ slot. is_some slot && nat_lt 0 (length (map (λ (h : Held). h.numbers) (unwrap_or slot [])))) (lists.others u.list other) ∙ f
 
-    all_still : (us : List Source) → list_all (λ u. not (u.list == l)) us ≡ true → list_all (is_filled p) us ≡ true → list_all (is_filled q) us ≡ true
+    all_still : (us : List SourceList) → list_all (λ u. not (u.list == l)) us ≡ true → list_all (is_filled p) us ≡ true → list_all (is_filled q) us ≡ true
     all_still [] a b = refl
     all_still (u ∷ us) a b =
         let v = and_parts (not (u.list == l)) (list_all (λ u. not (u.list == l)) us) a in
@@ -221,15 +221,15 @@ grown_with p q sources order at l t kept place others le few lists law =
         split false e = inr (kept.known m (sym (ap is_some (lists.others m (λ k. absurd (let n = k in grind (arith, nat_tests))))) ∙ is))
 
 -- spans where all lists are as they were
-same_all : (p q : PoolValue) (ss : List Source) → HasSameLists p q → spans_of q ss ≡ spans_of p ss
+same_all : (p q : PoolValue) (ss : List SourceList) → HasSameLists p q → spans_of q ss ≡ spans_of p ss
 same_all p q [] same = refl
 same_all p q (s ∷ ss) same = (λ i. map (span_of s.id) (same_at p q s.list (same s.list) i) ++ same_all p q ss same i)
 
-filled_all : (p q : PoolValue) (ss : List Source) → HasSameLists p q → list_all (is_filled p) ss ≡ true → list_all (is_filled q) ss ≡ true
+filled_all : (p q : PoolValue) (ss : List SourceList) → HasSameLists p q → list_all (is_filled p) ss ≡ true → list_all (is_filled q) ss ≡ true
 filled_all p q ss same h = all_weaker (is_filled p) (is_filled q) ss (λ s f. ap (λ slot. is_some slot && nat_lt 0 (length (map (λ (h : Held). h.numbers) (unwrap_or slot [])))) (same s.list) ∙ f) h
 
 -- they are kept in another pool that has the same lists
-pub kept_again : (p q : PoolValue) (sources : List Source) (order : List ℕ) → HasSameLists p q → IsKeptIn p sources order → Stays p sources order q sources order
+pub kept_again : (p q : PoolValue) (sources : List SourceList) (order : List ℕ) → HasSameLists p q → IsKeptIn p sources order → Stays p sources order q sources order
 kept_again p q sources order same kept =
     let parts : flat q sources order ≡ flat p sources order = same_all p q (sources_at sources order) same in
     record {
@@ -250,15 +250,15 @@ kept_again p q sources order same kept =
 
 -- ---- why there is no list more
 
-pub unknown_fits : (p : PoolValue) (sources : List Source) (order : List ℕ) (t : Span) → IsKeptIn p sources order → are_others t.source (sources_at sources order) ≡ true → t.lo ≤ t.hi → length order < most_sources
+pub unknown_fits : (p : PoolValue) (sources : List SourceList) (order : List ℕ) (t : Span) → IsKeptIn p sources order → are_others t.source (sources_at sources order) ≡ true → t.lo ≤ t.hi → length order < most_sources
     → source_count (with_span (set_of (flat p sources order)) t) ≤ most_sources
 unknown_fits p sources order t kept others le few = let c = unknown_count p sources order t kept others le in omega (arith, c, few)
 
-pub unknown_full : (p : PoolValue) (sources : List Source) (order : List ℕ) (t : Span) → IsKeptIn p sources order → are_others t.source (sources_at sources order) ≡ true → t.lo ≤ t.hi → most_sources ≤ length order
+pub unknown_full : (p : PoolValue) (sources : List SourceList) (order : List ℕ) (t : Span) → IsKeptIn p sources order → are_others t.source (sources_at sources order) ≡ true → t.lo ≤ t.hi → most_sources ≤ length order
     → most_sources < source_count (with_span (set_of (flat p sources order)) t)
 unknown_full p sources order t kept others le many = let c = unknown_count p sources order t kept others le in omega (arith, c, many)
 
-pub fault_with : (p : PoolValue) (sources : List Source) (order : List ℕ) (t : Span) (f : SetFault) → IsKeptIn p sources order → are_others t.source (sources_at sources order) ≡ true → t.lo ≤ t.hi → length order < most_sources
+pub fault_with : (p : PoolValue) (sources : List SourceList) (order : List ℕ) (t : Span) (f : SetFault) → IsKeptIn p sources order → are_others t.source (sources_at sources order) ≡ true → t.lo ≤ t.hi → length order < most_sources
     → IsListFault f p → IsFullExactly {T = Unit {0}} (Err f) (with_span (set_of (flat p sources order)) t)
 fault_with p sources order t Memory kept others le few fault = unknown_fits p sources order t kept others le few
 fault_with p sources order t SourcesFull kept others le few fault = absurd fault
@@ -267,7 +267,7 @@ fault_with p sources order t PoolFull kept others le few fault =
     let l = flat_length p (sources_at sources order) in
     (unknown_fits p sources order t kept others le few, crowded (fault (lists_of (sources_at sources order)) kept.known) m l)
   where
-    as_listed : (ss : List Source) → length (lists_of ss) ≡ length ss
+    as_listed : (ss : List SourceList) → length (lists_of ss) ≡ length ss
     as_listed [] = refl
     as_listed (s ∷ ss) = ap suc (as_listed ss)
 
@@ -318,13 +318,13 @@ cell_fault p q l pools.Full opened full = λ lists known. inl (bound lists known
 
 -- ---- a span after the others
 
-pub behind_flat : (p : PoolValue) (ss : List Source) (at : ℕ) (s : Source) (t : Span) → slice_get ss at ≡ Some s → s.id ≡ t.source → all_before (spans_of p ss) t ≡ true → AllByRecursion (λ i. IsBefore i (interval_of t)) (spans p s.list)
+pub behind_flat : (p : PoolValue) (ss : List SourceList) (at : ℕ) (s : SourceList) (t : Span) → slice_get ss at ≡ Some s → s.id ≡ t.source → all_before (spans_of p ss) t ≡ true → AllByRecursion (λ i. IsBefore i (interval_of t)) (spans p s.list)
 behind_flat p [] zero s t e same before = absurd cc
 behind_flat p [] (suc n) s t e same before = absurd cc
 behind_flat p (u ∷ us) zero s t e same before =
     let is : u ≡ s = cc in
-    subst (λ (v : Source). AllByRecursion (λ i. IsBefore i (interval_of t)) (spans p v.list)) is
-    (each (spans p u.list) (ap (λ (v : Source). v.id) is ∙ same) (all_parts (λ x. is_before x t) (spans_in p u) (spans_of p us) before).0)
+    subst (λ (v : SourceList). AllByRecursion (λ i. IsBefore i (interval_of t)) (spans p v.list)) is
+    (each (spans p u.list) (ap (λ (v : SourceList). v.id) is ∙ same) (all_parts (λ x. is_before x t) (spans_in p u) (spans_of p us) before).0)
   where
     one : (i : Interval) → u.id ≡ t.source → is_before (span_of u.id i) t ≡ true → i.hi + 1 < t.lo
     one i k b = grind (arith, nat_tests)
@@ -339,7 +339,7 @@ apart_behind [] t all = tt
 apart_behind (i ∷ is) t all = (inl all.0, apart_behind is t all.1)
 
 -- no source is greater than that of the span
-ids_behind : (p : PoolValue) (ss : List Source) (t : Span) → list_all (is_filled p) ss ≡ true → all_before (spans_of p ss) t ≡ true → list_all (λ s. nat_le s.id t.source) ss ≡ true
+ids_behind : (p : PoolValue) (ss : List SourceList) (t : Span) → list_all (is_filled p) ss ≡ true → all_before (spans_of p ss) t ≡ true → list_all (λ s. nat_le s.id t.source) ss ≡ true
 ids_behind p [] t filled before = refl
 ids_behind p (s ∷ ss) t filled before =
     let f = and_parts (is_filled p s) (list_all (is_filled p) ss) filled in
@@ -354,7 +354,7 @@ ids_behind p (s ∷ ss) t filled before =
     here (i ∷ is) some all = one i (and_parts (is_before (span_of s.id i) t) (list_all (λ x. is_before x t) (map (span_of s.id) is)) all).0
 
 -- where the last is another, all are less
-all_less : (ss : List Source) (id : ℕ) → are_ascending ss ≡ true → list_all (λ s. nat_le s.id id) ss ≡ true → IsNoSourceAt ss (length ss - 1) id → list_all (λ s. nat_lt s.id id) ss ≡ true
+all_less : (ss : List SourceList) (id : ℕ) → are_ascending ss ≡ true → list_all (λ s. nat_le s.id id) ss ≡ true → IsNoSourceAt ss (length ss - 1) id → list_all (λ s. nat_lt s.id id) ss ≡ true
 all_less [] id r le none = refl
 all_less (s ∷ []) id r le none = and_from (nat_lt s.id id) true (less (none s refl) (and_parts (nat_le s.id id) true le).0) refl
   where
@@ -369,10 +369,10 @@ all_less (s ∷ u ∷ us) id r le none =
     less : nat_lt s.id u.id ≡ true → nat_lt u.id id ≡ true → nat_lt s.id id ≡ true
     less a b = grind (arith, nat_tests)
 
-    last_of : (t : Source) → slice_get (u ∷ us) (length (u ∷ us) - 1) ≡ Some t → slice_get (s ∷ u ∷ us) (length (s ∷ u ∷ us) - 1) ≡ Some t
+    last_of : (t : SourceList) → slice_get (u ∷ us) (length (u ∷ us) - 1) ≡ Some t → slice_get (s ∷ u ∷ us) (length (s ∷ u ∷ us) - 1) ≡ Some t
     last_of t e = ap (slice_get (s ∷ u ∷ us)) (let k : length (s ∷ u ∷ us) - 1 ≡ suc (length (u ∷ us) - 1) = omega arith in k) ∙ e
 
-pub ends_at : (p : PoolValue) (sources : List Source) (order : List ℕ) (t : Span) → IsKeptIn p sources order → all_before (flat p sources order) t ≡ true → IsNoSourceAt (sources_at sources order) (length order - 1) t.source
+pub ends_at : (p : PoolValue) (sources : List SourceList) (order : List ℕ) (t : Span) → IsKeptIn p sources order → all_before (flat p sources order) t ≡ true → IsNoSourceAt (sources_at sources order) (length order - 1) t.source
     → IsSourcePlace (sources_at sources order) t.source (length order) × (are_others t.source (sources_at sources order) ≡ true)
 ends_at p sources order t kept before none =
     let ss = sources_at sources order in
@@ -385,7 +385,7 @@ ends_at p sources order t kept before none =
     } in
     (place, all_weaker (λ s. nat_lt s.id t.source) (λ s. not (t.source == s.id)) ss (λ s lt. other s lt) less)
   where
-    other : (s : Source) → nat_lt s.id t.source ≡ true → not (t.source == s.id) ≡ true
+    other : (s : SourceList) → nat_lt s.id t.source ≡ true → not (t.source == s.id) ≡ true
     other s lt = grind (arith, nat_tests)
 
     as_ordered : (is : List ℕ) → length is ≡ length (sources_at sources is)
@@ -457,7 +457,7 @@ refused_next xs t more all PoolFull next few full =
     omega (arith, m, i, long)
 
 -- spans that have grown by the next
-pub grown_next : (p q : PoolValue) (sources sources' : List Source) (order order' : List ℕ) (t : Span) (more all : List Span) → IsNext (flat p sources order) t more all → Grown p sources order t q sources' order' → flat q sources' order' ++ more ≡ all
+pub grown_next : (p q : PoolValue) (sources sources' : List SourceList) (order order' : List ℕ) (t : Span) (more all : List Span) → IsNext (flat p sources order) t more all → Grown p sources order t q sources' order' → flat q sources' order' ++ more ≡ all
 grown_next p q sources sources' order order' t more all next grown =
     let same = equal_lists (flat q sources' order') (flat p sources order ++ t ∷ []) grown.kept.merged next.merged
     (added_set (flat p sources order) (flat q sources' order') (set_of (flat p sources order)) t refl grown.list ∙ sym next.set) in

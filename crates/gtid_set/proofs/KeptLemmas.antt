@@ -12,7 +12,7 @@ use Rattle.interval_pool.specs.Intervals.{IsBefore, AreMerged, has as has_number
 use Rattle.interval_pool.specs.Values.{PoolValue, slot_at, spans, intervals_of, Held}
 use Rattle.gtid_text.specs.declared.Gtid.{Gtid}
 use Rattle.gtid_text.specs.declared.Span.{Span}
-use Rattle.gtid_set.specs.declared.sources.Source.{Source}
+use Rattle.gtid_set.specs.declared.sources.SourceList.{SourceList}
 use Rattle.gtid_set.specs.Spans.{is_before, is_merged, has}
 use Rattle.gtid_set.specs.Sweep.{within}
 use Rattle.gtid_set.specs.Kept.{span_of, spans_in, spans_of, are_ascending, have_own, sources_at, source_at, are_places, lists_of, knows, are_others, KeepsBut, IsSourcePlace}
@@ -30,45 +30,45 @@ has_span_of id (i ∷ is) q =
     ap (λ b. ((q.source == id) && covers_number i q.number) || b) (has_span_of id is q)
     ∙ sym (and-or_distrib_left (q.source == id) (covers_number i q.number) (has_number is q.number))
 
-pub has_spans_of : (p : PoolValue) (ss : List Source) (q : Gtid) → has (spans_of p ss) q ≡ knows p ss q
+pub has_spans_of : (p : PoolValue) (ss : List SourceList) (q : Gtid) → has (spans_of p ss) q ≡ knows p ss q
 has_spans_of p [] q = refl
 has_spans_of p (s ∷ ss) q = list_any-append (λ t. within t q) (spans_in p s) (spans_of p ss) ∙ (λ i. has_span_of s.id (spans p s.list) q i || has_spans_of p ss q i)
 
 -- ---- sources among others
 
-pub got_all : (test : Source → Bool) (ss : List Source) (at : ℕ) (s : Source) → list_all test ss ≡ true → slice_get ss at ≡ Some s → test s ≡ true
+pub got_all : (test : SourceList → Bool) (ss : List SourceList) (at : ℕ) (s : SourceList) → list_all test ss ≡ true → slice_get ss at ≡ Some s → test s ≡ true
 got_all test [] zero s all e = absurd cc
 got_all test [] (suc n) s all e = absurd cc
 got_all test (t ∷ ts) zero s all e = ap test (same_one t s e) ∙ (and_parts (test t) (list_all test ts) all).0
   where
-    same_one : (t s : Source) → Some t ≡ Some s → s ≡ t
+    same_one : (t s : SourceList) → Some t ≡ Some s → s ≡ t
     same_one t s e = cc
 got_all test (t ∷ ts) (suc n) s all e = got_all test ts n s (and_parts (test t) (list_all test ts) all).1 e
 
-pub knows_none : (p : PoolValue) (ss : List Source) (q : Gtid) → are_others q.source ss ≡ true → knows p ss q ≡ false
+pub knows_none : (p : PoolValue) (ss : List SourceList) (q : Gtid) → are_others q.source ss ≡ true → knows p ss q ≡ false
 knows_none p ss q others = any_none (λ s. (q.source == s.id) && has_number (spans p s.list) q.number) (λ s. not (q.source == s.id)) ss (λ s o. fails (q.source == s.id) (has_number (spans p s.list) q.number) o) others
   where
     fails : (a b : Bool) → not a ≡ true → (a && b) ≡ false
     fails true b o = absurd cc
     fails false b o = refl
 
-pub knows_at : (p : PoolValue) (ss : List Source) (at : ℕ) (s : Source) (q : Gtid) → are_ascending ss ≡ true → slice_get ss at ≡ Some s → q.source ≡ s.id → knows p ss q ≡ has_number (spans p s.list) q.number
+pub knows_at : (p : PoolValue) (ss : List SourceList) (at : ℕ) (s : SourceList) (q : Gtid) → are_ascending ss ≡ true → slice_get ss at ≡ Some s → q.source ≡ s.id → knows p ss q ≡ has_number (spans p s.list) q.number
 knows_at p [] zero s q r e same = absurd cc
 knows_at p [] (suc n) s q r e same = absurd cc
 knows_at p (t ∷ ts) zero s q r e same =
     let w = and_parts (list_all (λ u. nat_lt t.id u.id) ts) (are_ascending ts) r in
     let is : t ≡ s = cc in
-    let hit : (q.source == t.id) ≡ true = (let k : q.source ≡ t.id = same ∙ sym (ap (λ (u : Source). u.id) is) in grind (arith, nat_tests)) in
+    let hit : (q.source == t.id) ≡ true = (let k : q.source ≡ t.id = same ∙ sym (ap (λ (u : SourceList). u.id) is) in grind (arith, nat_tests)) in
     (λ i. (hit i && has_number (spans p t.list) q.number) || knows_none p ts q (all_weaker (λ u. nat_lt t.id u.id) (λ u. not (q.source == u.id)) ts (λ u lt. differs u lt is) w.0) i)
     ∙ only (has_number (spans p t.list) q.number)
-    ∙ ap (λ (u : Source). has_number (spans p u.list) q.number) is
+    ∙ ap (λ (u : SourceList). has_number (spans p u.list) q.number) is
   where
     only : (b : Bool) → (b || false) ≡ b
     only true = refl
     only false = refl
 
-    differs : (u : Source) → nat_lt t.id u.id ≡ true → t ≡ s → not (q.source == u.id) ≡ true
-    differs u lt is = let k : q.source ≡ t.id = same ∙ sym (ap (λ (u : Source). u.id) is) in grind (arith, nat_tests)
+    differs : (u : SourceList) → nat_lt t.id u.id ≡ true → t ≡ s → not (q.source == u.id) ≡ true
+    differs u lt is = let k : q.source ≡ t.id = same ∙ sym (ap (λ (u : SourceList). u.id) is) in grind (arith, nat_tests)
 knows_at p (t ∷ ts) (suc n) s q r e same =
     let w = and_parts (list_all (λ u. nat_lt t.id u.id) ts) (are_ascending ts) r in
     let lt = got_all (λ u. nat_lt t.id u.id) ts n s w.0 e in
@@ -76,7 +76,7 @@ knows_at p (t ∷ ts) (suc n) s q r e same =
     ap (λ b. (b && has_number (spans p t.list) q.number) || knows p ts q) miss ∙ knows_at p ts n s q w.1 e same
 
 -- a source that is not at its place is not there
-pub others_at : (ss : List Source) (id at : ℕ) → are_ascending ss ≡ true → IsSourcePlace ss id at → ((s : Source) → slice_get ss at ≡ Some s → s.id ≢ id) → are_others id ss ≡ true
+pub others_at : (ss : List SourceList) (id at : ℕ) → are_ascending ss ≡ true → IsSourcePlace ss id at → ((s : SourceList) → slice_get ss at ≡ Some s → s.id ≢ id) → are_others id ss ≡ true
 others_at [] id at r place differs = refl
 others_at (t ∷ ts) id zero r place differs =
     let w = and_parts (list_all (λ u. nat_lt t.id u.id) ts) (are_ascending ts) r in
@@ -84,10 +84,10 @@ others_at (t ∷ ts) id zero r place differs =
     let apart : t.id ≢ id = differs t refl in
     and_from (not (id == t.id)) (are_others id ts) (other t here apart) (all_weaker (λ u. nat_lt t.id u.id) (λ u. not (id == u.id)) ts (λ u lt. later u lt here) w.0)
   where
-    other : (t : Source) → not (nat_lt t.id id) ≡ true → t.id ≢ id → not (id == t.id) ≡ true
+    other : (t : SourceList) → not (nat_lt t.id id) ≡ true → t.id ≢ id → not (id == t.id) ≡ true
     other t here apart = grind (arith, nat_tests)
 
-    later : (u : Source) → nat_lt t.id u.id ≡ true → not (nat_lt t.id id) ≡ true → not (id == u.id) ≡ true
+    later : (u : SourceList) → nat_lt t.id u.id ≡ true → not (nat_lt t.id id) ≡ true → not (id == u.id) ≡ true
     later u lt here = grind (arith, nat_tests)
 others_at (t ∷ ts) id (suc n) r place differs =
     let w = and_parts (list_all (λ u. nat_lt t.id u.id) ts) (are_ascending ts) r in
@@ -96,7 +96,7 @@ others_at (t ∷ ts) id (suc n) r place differs =
     let less = b.0 in
     and_from (not (id == t.id)) (are_others id ts) (other t less) (others_at ts id n w.1 (record { bound = omega (arith, bound); before = b.1; behind = place.behind }) differs)
   where
-    other : (t : Source) → nat_lt t.id id ≡ true → not (id == t.id) ≡ true
+    other : (t : SourceList) → nat_lt t.id id ≡ true → not (id == t.id) ≡ true
     other t less = grind (arith, nat_tests)
 
 -- ---- merged spans
@@ -120,7 +120,7 @@ merged_of id (i ∷ is) h = merged_cons (span_of id i) (map (span_of id) is) (re
     after (j ∷ js) a = and_from (is_before (span_of id i) (span_of id j)) (list_all (is_before (span_of id i)) (map (span_of id) js)) (before j a.0) (after js a.1)
 
 -- each span has the source of one of the sources
-pub all_of : (test : ℕ → Bool) (p : PoolValue) (ss : List Source) → list_all (λ s. test s.id) ss ≡ true → list_all (λ (t : Span). test t.source) (spans_of p ss) ≡ true
+pub all_of : (test : ℕ → Bool) (p : PoolValue) (ss : List SourceList) → list_all (λ s. test s.id) ss ≡ true → list_all (λ (t : Span). test t.source) (spans_of p ss) ≡ true
 all_of test p [] all = refl
 all_of test p (s ∷ ss) all =
     let w = and_parts (test s.id) (list_all (λ s. test s.id) ss) all in
@@ -130,7 +130,7 @@ all_of test p (s ∷ ss) all =
     each [] h = refl
     each (i ∷ is) h = and_from (test s.id) (list_all (λ (t : Span). test t.source) (map (span_of s.id) is)) h (each is h)
 
-pub merged_flat : (p : PoolValue) (ss : List Source) → are_ascending ss ≡ true → ((l : ℕ) → AreMerged (spans p l)) → is_merged (spans_of p ss) ≡ true
+pub merged_flat : (p : PoolValue) (ss : List SourceList) → are_ascending ss ≡ true → ((l : ℕ) → AreMerged (spans p l)) → is_merged (spans_of p ss) ≡ true
 merged_flat p [] r m = refl
 merged_flat p (s ∷ ss) r m =
     let w = and_parts (list_all (λ t. nat_lt s.id t.id) ss) (are_ascending ss) r in
@@ -147,14 +147,14 @@ merged_flat p (s ∷ ss) r m =
 
 -- ---- lengths
 
-length_spans_in : (p : PoolValue) (s : Source) → length (spans_in p s) ≡ length (spans p s.list)
+length_spans_in : (p : PoolValue) (s : SourceList) → length (spans_in p s) ≡ length (spans p s.list)
 length_spans_in p s = each (spans p s.list)
   where
     each : (is : List Interval) → length (map (span_of s.id) is) ≡ length is
     each [] = refl
     each (i ∷ is) = ap suc (each is)
 
-pub flat_length : (p : PoolValue) (ss : List Source) → length (spans_of p ss) ≡ intervals_of p (lists_of ss)
+pub flat_length : (p : PoolValue) (ss : List SourceList) → length (spans_of p ss) ≡ intervals_of p (lists_of ss)
 flat_length p [] = refl
 flat_length p (s ∷ ss) = length-append (spans_in p s) (spans_of p ss) ∙ (λ i. length_spans_in p s i + flat_length p ss i)
 
@@ -163,49 +163,49 @@ flat_length p (s ∷ ss) = length-append (spans_in p s) (spans_of p ss) ∙ (λ 
 pub same_at : (p q : PoolValue) (l : ℕ) → slot_at q l ≡ slot_at p l → spans q l ≡ spans p l
 same_at p q l e = ap (λ slot. map (λ (h : Held). h.numbers) (unwrap_or slot [])) e
 
-pub same_flat : (p q : PoolValue) (l : ℕ) (ss : List Source) → KeepsBut p q l → list_all (λ t. not (t.list == l)) ss ≡ true → spans_of q ss ≡ spans_of p ss
+pub same_flat : (p q : PoolValue) (l : ℕ) (ss : List SourceList) → KeepsBut p q l → list_all (λ t. not (t.list == l)) ss ≡ true → spans_of q ss ≡ spans_of p ss
 same_flat p q l [] keeps all = refl
 same_flat p q l (s ∷ ss) keeps all =
     let w = and_parts (not (s.list == l)) (list_all (λ t. not (t.list == l)) ss) all in
     (λ i. map (span_of s.id) (same_at p q s.list (keeps s.list (other s w.0)) i) ++ same_flat p q l ss keeps w.1 i)
   where
-    other : (s : Source) → not (s.list == l) ≡ true → s.list ≢ l
+    other : (s : SourceList) → not (s.list == l) ≡ true → s.list ≢ l
     other s o e = absurd (grind (arith, nat_tests))
 
-pub knows_same : (p q : PoolValue) (l : ℕ) (ss : List Source) (g : Gtid) → KeepsBut p q l → list_all (λ t. not (t.list == l)) ss ≡ true → knows q ss g ≡ knows p ss g
+pub knows_same : (p q : PoolValue) (l : ℕ) (ss : List SourceList) (g : Gtid) → KeepsBut p q l → list_all (λ t. not (t.list == l)) ss ≡ true → knows q ss g ≡ knows p ss g
 knows_same p q l ss g keeps all = sym (has_spans_of q ss g) ∙ ap (λ xs. has xs g) (same_flat p q l ss keeps all) ∙ has_spans_of p ss g
 
 -- what another source has stays
-pub knows_other : (p q : PoolValue) (ss : List Source) (at : ℕ) (s : Source) (g : Gtid) → have_own ss ≡ true → slice_get ss at ≡ Some s → KeepsBut p q s.list → g.source ≢ s.id → knows q ss g ≡ knows p ss g
+pub knows_other : (p q : PoolValue) (ss : List SourceList) (at : ℕ) (s : SourceList) (g : Gtid) → have_own ss ≡ true → slice_get ss at ≡ Some s → KeepsBut p q s.list → g.source ≢ s.id → knows q ss g ≡ knows p ss g
 knows_other p q [] zero s g own e keeps ne = absurd cc
 knows_other p q [] (suc n) s g own e keeps ne = absurd cc
 knows_other p q (t ∷ ts) zero s g own e keeps ne =
     let is : t ≡ s = cc in
     let w = and_parts (list_all (λ u. not (u.list == t.list)) ts) (have_own ts) own in
-    let others = subst (λ (u : Source). list_all (λ v. not (v.list == u.list)) ts ≡ true) is w.0 in
-    let miss : (g.source == t.id) ≡ false = (let i = ap (λ (u : Source). u.id) is in grind (arith, nat_tests)) in
+    let others = subst (λ (u : SourceList). list_all (λ v. not (v.list == u.list)) ts ≡ true) is w.0 in
+    let miss : (g.source == t.id) ≡ false = (let i = ap (λ (u : SourceList). u.id) is in grind (arith, nat_tests)) in
     (λ i. (miss i && has_number (spans q t.list) g.number) || knows_same p q s.list ts g keeps others i) ∙ sym (ap (λ b. (b && has_number (spans p t.list) g.number) || knows p ts g) miss)
 knows_other p q (t ∷ ts) (suc n) s g own e keeps ne =
     let w = and_parts (list_all (λ u. not (u.list == t.list)) ts) (have_own ts) own in
     let apart : t.list ≢ s.list = differs t (got_all (λ u. not (u.list == t.list)) ts n s w.0 e) in
     (λ i. ((g.source == t.id) && has_number (same_at p q t.list (keeps t.list apart) i) g.number) || knows_other p q ts n s g w.1 e keeps ne i)
   where
-    differs : (t : Source) → not (s.list == t.list) ≡ true → t.list ≢ s.list
+    differs : (t : SourceList) → not (s.list == t.list) ≡ true → t.list ≢ s.list
     differs t o k = absurd (grind (arith, nat_tests))
 
 -- the source at a place in the order
-pub listed_get : (sources : List Source) (is : List ℕ) (n d : ℕ) → n < length is → slice_get (sources_at sources is) n ≡ Some (source_at sources (get_or is n d))
+pub listed_get : (sources : List SourceList) (is : List ℕ) (n d : ℕ) → n < length is → slice_get (sources_at sources is) n ≡ Some (source_at sources (get_or is n d))
 listed_get sources [] n d lt = absurd (omega (arith, lt))
 listed_get sources (i ∷ is) zero d lt = refl
 listed_get sources (i ∷ is) (suc n) d lt = listed_get sources is n d (omega (arith, lt))
 
-pub listed_past : (sources : List Source) (is : List ℕ) (n : ℕ) → length is ≤ n → slice_get (sources_at sources is) n ≡ None
+pub listed_past : (sources : List SourceList) (is : List ℕ) (n : ℕ) → length is ≤ n → slice_get (sources_at sources is) n ≡ None
 listed_past sources [] zero le = refl
 listed_past sources [] (suc n) le = refl
 listed_past sources (i ∷ is) zero le = absurd (omega (arith, le))
 listed_past sources (i ∷ is) (suc n) le = listed_past sources is n (omega (arith, le))
 
-pub place_within : (sources : List Source) (is : List ℕ) (n d : ℕ) → are_places sources is ≡ true → n < length is → get_or is n d < length sources
+pub place_within : (sources : List SourceList) (is : List ℕ) (n d : ℕ) → are_places sources is ≡ true → n < length is → get_or is n d < length sources
 place_within sources [] n d all lt = absurd (omega (arith, lt))
 place_within sources (i ∷ is) zero d all lt = within_one (and_parts (nat_lt i (length sources)) (are_places sources is) all).0
   where

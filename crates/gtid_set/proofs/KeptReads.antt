@@ -9,7 +9,7 @@ use Rattle.interval_pool.specs.Intervals.{IsBefore, AreMerged, covers, has as ha
 use Rattle.interval_pool.specs.Values.{PoolValue, spans}
 use Rattle.interval_pool.proofs.Standing.{has_one}
 use Rattle.gtid_text.specs.declared.Gtid.{Gtid}
-use Rattle.gtid_set.specs.declared.sources.Source.{Source}
+use Rattle.gtid_set.specs.declared.sources.SourceList.{SourceList}
 use Rattle.gtid_set.specs.Sets.{gtid}
 use Rattle.gtid_set.specs.Spans.{has}
 use Rattle.gtid_set.specs.Sweep.{HasSpan}
@@ -60,7 +60,7 @@ ended_at (i ∷ is) (suc k) s m lt e =
     passed : i.hi + 1 < s.lo → s.lo ≤ s.hi → covers i (s.hi + 1) ≡ false
     passed b f = grind (arith, nat_tests)
 
-pub span_here : (p : PoolValue) (ss : List Source) (at : ℕ) (s : Source) (i : Interval) (q : Gtid) → are_ascending ss ≡ true → ((l : ℕ) → AreMerged (spans p l)) → IsSourceAt ss at q.source s → Contains (spans p s.list) i → covers i q.number ≡ true
+pub span_here : (p : PoolValue) (ss : List SourceList) (at : ℕ) (s : SourceList) (i : Interval) (q : Gtid) → are_ascending ss ≡ true → ((l : ℕ) → AreMerged (spans p l)) → IsSourceAt ss at q.source s → Contains (spans p s.list) i → covers i q.number ≡ true
     → HasSpan (spans_of p ss) q (span_of q.source i)
 span_here p ss at s i q rising merged is one here = record {
   reaches = (let h = here in grind (arith, nat_tests));
@@ -74,39 +74,39 @@ span_here p ss at s i q rising merged is one here = record {
     inside : (n : ℕ) → q.number ≤ n → n ≤ i.hi → covers i n ≡ true
     inside n lo hi = let h = here in grind (arith, nat_tests)
 
-pub missing_here : (p : PoolValue) (ss : List Source) (at : ℕ) (s : Source) (q : Gtid) → are_ascending ss ≡ true → IsSourceAt ss at q.source s → has_number (spans p s.list) q.number ≡ false → has (spans_of p ss) q ≡ false
+pub missing_here : (p : PoolValue) (ss : List SourceList) (at : ℕ) (s : SourceList) (q : Gtid) → are_ascending ss ≡ true → IsSourceAt ss at q.source s → has_number (spans p s.list) q.number ≡ false → has (spans_of p ss) q ≡ false
 missing_here p ss at s q rising is none = has_spans_of p ss q ∙ knows_at p ss at s q rising is.got (sym is.same) ∙ none
 
 -- ---- the place of a source
 
 -- what a test shows of places, for the sources there
-all_listed : (test : Source → Bool) (sources : List Source) (is : List ℕ) → list_all test (sources_at sources is) ≡ list_all (λ i. test (source_at sources i)) is
+all_listed : (test : SourceList → Bool) (sources : List SourceList) (is : List ℕ) → list_all test (sources_at sources is) ≡ list_all (λ i. test (source_at sources i)) is
 all_listed test sources [] = refl
 all_listed test sources (i ∷ is) = ap (λ b. test (source_at sources i) && b) (all_listed test sources is)
 
-take_listed : (sources : List Source) (is : List ℕ) (n : ℕ) → take n (sources_at sources is) ≡ sources_at sources (take n is)
+take_listed : (sources : List SourceList) (is : List ℕ) (n : ℕ) → take n (sources_at sources is) ≡ sources_at sources (take n is)
 take_listed sources [] zero = refl
 take_listed sources [] (suc n) = refl
 take_listed sources (i ∷ is) zero = refl
 take_listed sources (i ∷ is) (suc n) = ap (λ ss. source_at sources i ∷ ss) (take_listed sources is n)
 
-drop_listed : (sources : List Source) (is : List ℕ) (n : ℕ) → drop n (sources_at sources is) ≡ sources_at sources (drop n is)
+drop_listed : (sources : List SourceList) (is : List ℕ) (n : ℕ) → drop n (sources_at sources is) ≡ sources_at sources (drop n is)
 drop_listed sources [] zero = refl
 drop_listed sources [] (suc n) = refl
 drop_listed sources (i ∷ is) zero = refl
 drop_listed sources (i ∷ is) (suc n) = drop_listed sources is n
 
-length_listed : (sources : List Source) (is : List ℕ) → length is ≡ length (sources_at sources is)
+length_listed : (sources : List SourceList) (is : List ℕ) → length is ≡ length (sources_at sources is)
 length_listed sources [] = refl
 length_listed sources (i ∷ is) = ap suc (length_listed sources is)
 
-inside_all : (sources : List Source) (is : List ℕ) (i : ℕ) → are_places sources is ≡ true → i < length is → (d : ℕ) → nat_lt (get_or is i d) (length sources) ≡ true
+inside_all : (sources : List SourceList) (is : List ℕ) (i : ℕ) → are_places sources is ≡ true → i < length is → (d : ℕ) → nat_lt (get_or is i d) (length sources) ≡ true
 inside_all sources [] i all lt d = absurd (omega (arith, lt))
 inside_all sources (j ∷ is) zero all lt d = (and_parts (nat_lt j (length sources)) (are_places sources is) all).0
 inside_all sources (j ∷ is) (suc i) all lt d = inside_all sources is i (and_parts (nat_lt j (length sources)) (are_places sources is) all).1 (omega (arith, lt)) d
 
 -- the test of a search fails from some place on
-pub parted_places : (sources : List Source) (is : List ℕ) (id : ℕ) → are_places sources is ≡ true → are_ascending (sources_at sources is) ≡ true → IsPartitionedBy (comes_before sources id) is
+pub parted_places : (sources : List SourceList) (is : List ℕ) (id : ℕ) → are_places sources is ≡ true → are_ascending (sources_at sources is) ≡ true → IsPartitionedBy (comes_before sources id) is
 parted_places sources [] id places rising i j d le lt e = absurd (omega (arith, lt))
 parted_places sources (k ∷ is) id places rising zero zero d le lt e = e
 parted_places sources (k ∷ is) id places rising zero (suc j) d le lt e =
@@ -130,7 +130,7 @@ parted_places sources (k ∷ is) id places rising (suc i) zero d le lt e = absur
 parted_places sources (k ∷ is) id places rising (suc i) (suc j) d le lt e =
     parted_places sources is id (and_parts (nat_lt k (length sources)) (are_places sources is) places).1 (and_parts (list_all (λ u. nat_lt (source_at sources k).id u.id) (sources_at sources is)) (are_ascending (sources_at sources is)) rising).1 i j d (omega (arith, le)) (omega (arith, lt)) e
 
-pub placed_source : (sources : List Source) (is : List ℕ) (id at : ℕ) → are_places sources is ≡ true → at ≤ length is → IsPartitionPoint (λ i. comes_before sources id i ≡ true) (λ i. comes_before sources id i ≡ false) is at → IsSourcePlace (sources_at sources is) id at
+pub placed_source : (sources : List SourceList) (is : List ℕ) (id at : ℕ) → are_places sources is ≡ true → at ≤ length is → IsPartitionPoint (λ i. comes_before sources id i ≡ true) (λ i. comes_before sources id i ≡ false) is at → IsSourcePlace (sources_at sources is) id at
 placed_source sources is id at places le part =
     let long = length_listed sources is in
     record {

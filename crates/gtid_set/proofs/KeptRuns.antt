@@ -11,7 +11,7 @@ use Rattle.interval_pool.specs.Values.{PoolValue, spans, is_list, Extended, IsFu
 use Rattle.interval_pool.proofs.Within.{stand_within}
 use Rattle.gtid_text.specs.declared.Gtid.{Gtid}
 use Rattle.gtid_text.specs.declared.Span.{Span}
-use Rattle.gtid_set.specs.declared.sources.Source.{Source}
+use Rattle.gtid_set.specs.declared.sources.SourceList.{SourceList}
 use Rattle.gtid_set.specs.Sets.{source_count}
 use Rattle.gtid_set.specs.Spans.{set_of, is_before, is_merged, has}
 use Rattle.gtid_set.specs.Sweep.{within, all_before, sources_in}
@@ -60,7 +60,7 @@ joined (i ∷ is) js m n b = (m.0, both is js m.1 (firsts js b), joined is js m.
     both (k ∷ ks) js a b = (a.0, both ks js a.1 b)
 
 -- what is asked of the pool for it
-pub run_merged : (p : PoolValue) (sources : List Source) (order : List ℕ) (s : Source) (id : ℕ) (js : List Interval) → ((l : ℕ) → AreMerged (spans p l)) → IsSourceOf (sources_at sources order) s id
+pub run_merged : (p : PoolValue) (sources : List SourceList) (order : List ℕ) (s : SourceList) (id : ℕ) (js : List Interval) → ((l : ℕ) → AreMerged (spans p l)) → IsSourceOf (sources_at sources order) s id
     → is_merged (flat p sources order ++ spans_as id js) ≡ true → AreMerged (spans p s.list ++ js)
 run_merged p sources order s id js merged of m =
     joined (spans p s.list) js (merged s.list) (merged_numbers id js (merged_back (flat p sources order) (spans_as id js) m))
@@ -80,7 +80,7 @@ run_merged p sources order s id js merged of m =
 
 -- ---- what it leaves
 
-pub knows_extended : (p q : PoolValue) (ss : List Source) (at : ℕ) (s : Source) (id : ℕ) (js : List Interval) (g : Gtid) → are_ascending ss ≡ true → have_own ss ≡ true → slice_get ss at ≡ Some s → s.id ≡ id
+pub knows_extended : (p q : PoolValue) (ss : List SourceList) (at : ℕ) (s : SourceList) (id : ℕ) (js : List Interval) (g : Gtid) → are_ascending ss ≡ true → have_own ss ≡ true → slice_get ss at ≡ Some s → s.id ≡ id
     → Extended p s.list js q → knows q ss g ≡ (knows p ss g || has (spans_as id js) g)
 knows_extended p q ss at s id js g r own e same more = split (g.source == s.id) refl
   where
@@ -99,7 +99,7 @@ knows_extended p q ss at s id js g r own e same more = split (g.source == s.id) 
         let miss : (g.source == id) ≡ false = grind (arith, nat_tests) in
         knows_other p q ss at s g own e (λ m ne. more.others m ne) there ∙ sym (or_none (knows p ss g)) ∙ ap (λ b. knows p ss g || b) (sym (has_span_of id js g ∙ ap (λ b. b && has_number js g.number) miss))
 
-still_filled : (p q : PoolValue) (l : ℕ) (js : List Interval) → Extended p l js q → (s : Source) → is_filled p s ≡ true → is_filled q s ≡ true
+still_filled : (p q : PoolValue) (l : ℕ) (js : List Interval) → Extended p l js q → (s : SourceList) → is_filled p s ≡ true → is_filled q s ≡ true
 still_filled p q l js more s filled = split (s.list == l) refl
   where
     w : (is_list p s.list ≡ true) × (nat_lt 0 (length (spans p s.list)) ≡ true)
@@ -134,13 +134,13 @@ same_source id (i ∷ j ∷ is) ys some =
     twice false b e = e
 
 -- a source before others is none of theirs
-no_source_of : (p : PoolValue) (ss : List Source) (id : ℕ) → list_all (λ t. nat_lt id t.id) ss ≡ true → set.contains (sources_in (spans_of p ss)) id ≡ false
+no_source_of : (p : PoolValue) (ss : List SourceList) (id : ℕ) → list_all (λ t. nat_lt id t.id) ss ≡ true → set.contains (sources_in (spans_of p ss)) id ≡ false
 no_source_of p ss id less = contains-sources_in (spans_of p ss) id ∙ any_none (λ s. id == s.source) (λ s. nat_lt id s.source) (spans_of p ss) (λ s lt. differs s lt) (all_of (λ n. nat_lt id n) p ss less)
   where
     differs : (s : Span) → nat_lt id s.source ≡ true → (id == s.source) ≡ false
     differs s lt = grind (arith, nat_tests)
 
-sources_listed : (p : PoolValue) (ss : List Source) → are_ascending ss ≡ true → list_all (is_filled p) ss ≡ true → set.len (sources_in (spans_of p ss)) ≡ length ss
+sources_listed : (p : PoolValue) (ss : List SourceList) → are_ascending ss ≡ true → list_all (is_filled p) ss ≡ true → set.len (sources_in (spans_of p ss)) ≡ length ss
 sources_listed p [] rising filled = set.len-empty nat_cmp
 sources_listed p (s ∷ ss) rising filled =
     let r = and_parts (list_all (λ t. nat_lt s.id t.id) ss) (are_ascending ss) rising in
@@ -151,12 +151,12 @@ sources_listed p (s ∷ ss) rising filled =
     ∙ ap (λ b. cond b (set.len (sources_in (spans_of p ss))) (set.len (sources_in (spans_of p ss)) + 1)) (no_source_of p ss s.id r.0) in
     omega (arith, one, rest)
 
-pub count_listed : (p : PoolValue) (ss : List Source) → are_ascending ss ≡ true → list_all (is_filled p) ss ≡ true → ((l : ℕ) → AreMerged (spans p l)) → source_count (set_of (spans_of p ss)) ≡ length ss
+pub count_listed : (p : PoolValue) (ss : List SourceList) → are_ascending ss ≡ true → list_all (is_filled p) ss ≡ true → ((l : ℕ) → AreMerged (spans p l)) → source_count (set_of (spans_of p ss)) ≡ length ss
 count_listed p ss rising filled merged = ap set.len (sources_of-set_of (spans_of p ss) (merged_filled (spans_of p ss) (merged_flat p ss rising merged))) ∙ sources_listed p ss rising filled
 
 -- ---- a run is written
 
-pub run_written : (p q : PoolValue) (sources : List Source) (order : List ℕ) (s : Source) (id : ℕ) (js : List Interval) → IsKeptIn p sources order → IsSourceOf (sources_at sources order) s id
+pub run_written : (p q : PoolValue) (sources : List SourceList) (order : List ℕ) (s : SourceList) (id : ℕ) (js : List Interval) → IsKeptIn p sources order → IsSourceOf (sources_at sources order) s id
     → is_merged (flat p sources order ++ spans_as id js) ≡ true → Extended p s.list js q → IsLawful q → IsRun p sources order id js q
 run_written p q sources order s id js kept of m more law =
     let ss = sources_at sources order in
@@ -185,14 +185,14 @@ run_written p q sources order s id js kept of m more law =
     as_listed (i ∷ is) = ap suc (as_listed is)
 
 -- where there is no room for a run, all spans are too many
-full_for : (p : PoolValue) (sources : List Source) (order : List ℕ) (n : ℕ) → IsKeptIn p sources order → IsFullWith p n → most_intervals < length (flat p sources order) + n
+full_for : (p : PoolValue) (sources : List SourceList) (order : List ℕ) (n : ℕ) → IsKeptIn p sources order → IsFullWith p n → most_intervals < length (flat p sources order) + n
 full_for p sources order n kept full =
     let l = flat_length p (sources_at sources order) in
     let w = stand_within p (lists_of (sources_at sources order)) kept.known in
     let f = full in
     omega (arith, l, w, f)
 
-pub too_long : (p : PoolValue) (sources : List Source) (order : List ℕ) (id : ℕ) (js : List Interval) (f : PoolFault) → IsKeptIn p sources order → (f ≡ pools.Full → IsFullWith p (length js)) → IsTooLong (flat p sources order ++ spans_as id js) (fault_of f)
+pub too_long : (p : PoolValue) (sources : List SourceList) (order : List ℕ) (id : ℕ) (js : List Interval) (f : PoolFault) → IsKeptIn p sources order → (f ≡ pools.Full → IsFullWith p (length js)) → IsTooLong (flat p sources order ++ spans_as id js) (fault_of f)
 too_long p sources order id js pools.Memory kept full = tt
 too_long p sources order id js pools.Full kept full =
     let more = full_for p sources order (length js) kept (full refl) in
@@ -205,6 +205,6 @@ too_long p sources order id js pools.Full kept full =
     as_many (i ∷ is) = ap suc (as_many is)
 
 -- a run after spans, for other names of the same
-pub run_behind : (p : PoolValue) (sources sources' : List Source) (order order' : List ℕ) (id id' : ℕ) (js : List Interval) → sources' ≡ sources → order' ≡ order → id' ≡ id
+pub run_behind : (p : PoolValue) (sources sources' : List SourceList) (order order' : List ℕ) (id id' : ℕ) (js : List Interval) → sources' ≡ sources → order' ≡ order → id' ≡ id
     → flat p sources' order' ++ spans_as id' js ≡ flat p sources order ++ spans_as id js
 run_behind p sources sources' order order' id id' js ss is same = λ i. flat p (ss i) (is i) ++ spans_as (same i) js

@@ -1,10 +1,10 @@
 -- The laws of union, difference and intersection.
 use Rattle.std.proofs.Common.{◌≡◌, Bool, true, false, not, ◌&&◌, ◌||◌, refl, sym, ap, ◌∙◌}
 use Rattle.std.specs.FinSet as set
+use Rattle.lemmas.proofs.SameGtid.{gtid_total}
 use Rattle.gtid_text.specs.declared.Gtid.{Gtid}
 use Rattle.gtid_set.specs.Sets.{Gtids}
 use Rattle.gtid_set.proofs.SetLemmas.{same_members}
-use Rattle.gtid_text.proofs.SameGtid.{gtid_total}
 
 -- what is in each
 in_union : (a b : Gtids) (q : Gtid) → set.contains (set.union a b) q ≡ (set.contains a q || set.contains b q)

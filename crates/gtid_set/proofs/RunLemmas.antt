@@ -9,15 +9,17 @@ use Rattle.std.proofs.lemmas.List.Folds.{list_any-append}
 use Rattle.gtid_text.specs.declared.Gtid.{Gtid}
 use Rattle.gtid_text.specs.declared.Span.{Span}
 use Rattle.gtid_text.specs.Gtids.{gtid_cmp, same_gtid}
-use Rattle.gtid_text.proofs.SameGtid.{same_itself, same_is_equal}
 use Rattle.gtid_set.specs.Sets.{Gtids, gtid}
 use Rattle.gtid_set.specs.Spans.{set_of, has, is_merged, is_before}
 use Rattle.gtid_set.specs.Runs.{is_less, place, in_order, run_before, runs_of, runs}
 use Rattle.gtid_set.specs.Sweep.{within}
 use Rattle.gtid_set.proofs.SetLemmas.{same_members, gtid_tied, contains-set_of, any-numbers}
-use Rattle.gtid_set.proofs.SpanLemmas.{all_after, merged_head, merged_cons, or_swap}
+use Rattle.gtid_set.proofs.SpanLemmas.{all_after, merged_head, merged_cons}
 use Rattle.std.proofs.lemmas.Bool.{and_parts, and_from}
 use mathlib.Core.Bool.{or_assoc}
+use Rattle.lemmas.proofs.Tests.{or_swap}
+use Rattle.lemmas.proofs.SameGtid.{same_itself, same_is_equal}
+use Rattle.lemmas.proofs.Numbers.{self_le}
 
 -- a GTID less than the first of others
 abbrev pub less_first : Gtid → List Gtid → Bool
@@ -258,11 +260,8 @@ within_single g q = grind (arith, nat_tests)
 within_front : (g q : Gtid) (s : Span) → s.lo ≤ s.hi → ((s.source == g.source) && (s.lo == g.number + 1)) ≡ true → within (longer_front g s) q ≡ (same_gtid q g || within s q)
 within_front g q s f e = grind (arith, nat_tests)
 
-number_itself : (n : ℕ) → n ≤ n
-number_itself n = omega arith
-
 single_merged : (g : Gtid) → is_merged (single g ∷ []) ≡ true
-single_merged g = merged_cons (single g) [] (record { filled = number_itself g.number; after = refl; tail = refl })
+single_merged g = merged_cons (single g) [] (record { filled = self_le g.number; after = refl; tail = refl })
 
 -- one GTID more, before the others
 run_step : (g : Gtid) (gs : List Gtid) (s : Span) (ss : List Span) (b : Bool) → ((s.source == g.source) && (s.lo == g.number + 1)) ≡ b → less_first g gs ≡ true → AreRuns gs (s ∷ ss)
@@ -283,7 +282,7 @@ run_step g gs s ss true e first r =
 run_step g gs s ss false e first r =
     let h = merged_head s ss r.merged in
     record {
-      merged = merged_cons (single g) (s ∷ ss) (record { filled = number_itself g.number; after = all_after (single g) s ss h (apart (r.later g first) e); tail = r.merged });
+      merged = merged_cons (single g) (s ∷ ss) (record { filled = self_le g.number; after = all_after (single g) s ss h (apart (r.later g first) e); tail = r.merged });
       has = λ q. (λ i. within_single g q i || r.has q i);
       later = λ k less. less;
     }

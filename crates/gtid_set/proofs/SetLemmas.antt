@@ -14,8 +14,8 @@ use Rattle.std.proofs.lemmas.List.Sums.{sum_by-cons}
 use Rattle.std.proofs.lemmas.List.Folds.{list_any-append}
 use Rattle.gtid_set.specs.Spans.{set_of}
 use mathlib.Core.Bool.{or-false}
-use Rattle.gtid_text.proofs.SameGtid.{gtid_total, gtid_exact}
-use Rattle.gtid_set.proofs.SpanLemmas.{or_swap}
+use Rattle.lemmas.proofs.Tests.{or_swap}
+use Rattle.lemmas.proofs.SameGtid.{gtid_total, gtid_exact}
 
 -- two sets with the same members are equal
 pub same_members : (s t : Gtids) → ((g : Gtid) → set.contains s g ≡ set.contains t g) → s ≡ t
@@ -68,15 +68,6 @@ contains-set_of (s ∷ ss) g =
 
 one : (n m : ℕ) → (nat_le m n && nat_le n m) ≡ (n == m)
 one n m = grind (arith, nat_tests)
-
-push_any : {X : Type 0} (p : X → Bool) (xs : List X) (x : X) → list_any p (xs ++ x ∷ []) ≡ (p x || list_any p xs)
-push_any p [] x = refl
-push_any p (y ∷ ys) x = ap (λ b. p y || b) (push_any p ys x) ∙ or_swap (p y) (p x) _
-  where
-    or_swap : (a b c : Bool) → (a || (b || c)) ≡ (b || (a || c))
-    or_swap true true c = refl
-    or_swap true false c = refl
-    or_swap false b c = refl
 
 pub union_empty : (s : Gtids) → s ≡ set.union s set.empty
 union_empty s = same_members s (set.union s set.empty) (λ q. sym (set.contains-union gtid_total s set.empty q ∙ ap (λ b. set.contains s q || b) (set.contains-empty gtid_cmp q) ∙ or-false (set.contains s q)))

@@ -18,12 +18,8 @@ use Rattle.gtid_set.proofs.SetLemmas.{same_members, gtid_tied, contains-set_of, 
 use Rattle.gtid_set.proofs.SpanLemmas.{merged_filled, all_joined, merged_head, has_later}
 use Rattle.gtid_set.proofs.SourceLemmas.{same_numbers, contains-sources_in, len_besides}
 use Rattle.std.proofs.lemmas.Bool.{and_parts, or_left, or_right}
-use Rattle.gtid_text.proofs.SameGtid.{gtid_total, gtid_exact}
-
-pub same_bool : (a b : Bool) → (a ≡ true → b ≡ true) → (b ≡ true → a ≡ true) → a ≡ b
-same_bool true b f g = sym (f refl)
-same_bool false true f g = g refl
-same_bool false false f g = refl
+use Rattle.lemmas.proofs.SameGtid.{gtid_total, gtid_exact}
+use Rattle.lemmas.proofs.Tests.{same_bool}
 
 ors : (a b : Bool) → (a ≡ true → b ≡ true) → (c d : Bool) → (c ≡ true → d ≡ true) → (a || c) ≡ true → (b || d) ≡ true
 ors true b f c d g h = ap (λ x. x || d) (f refl)

@@ -13,7 +13,7 @@ use Rattle.gtid_set.specs.Sweep.{start_of, is_from, is_sorted, within}
 use Rattle.gtid_set.proofs.SetLemmas.{same_members, contains-set_of}
 use Rattle.gtid_set.proofs.SpanLemmas.{any_none}
 use Rattle.std.proofs.lemmas.Bool.{and_from}
-use Rattle.gtid_text.proofs.SameGtid.{gtid_total}
+use Rattle.lemmas.proofs.SameGtid.{gtid_total}
 
 from_not_less : (p q : Gtid) → is_lt (gtid_cmp q p) ≡ false → is_from p q ≡ true
 from_not_less p q e = grind (arith, nat_tests)

@@ -10,6 +10,7 @@ use Rattle.gtid_set.specs.Sets.{gtid}
 use Rattle.gtid_set.specs.Spans.{is_before, ends_before, is_merged, has}
 use Rattle.gtid_set.specs.Sweep.{Joins, TakesFirst, all_start_by, all_before, all_reach, is_sorted, is_met, start_of, within, is_from}
 use Rattle.std.proofs.lemmas.Bool.{and_parts, and_from}
+use Rattle.lemmas.proofs.Tests.{or_assoc, or_swap}
 
 pub before_trans : (s t u : Span) → is_before s t ≡ true → nat_le t.lo t.hi ≡ true → is_before t u ≡ true → is_before s u ≡ true
 before_trans s t u a b c = grind (arith, nat_tests)
@@ -122,10 +123,6 @@ reach_all first t more m e =
     reaches : (s : Span) → nat_le s.lo s.hi ≡ true → is_before first s ≡ true → ends_before (start_of t) first ≡ false → not (ends_before (start_of t) s) ≡ true
     reaches s f b e = grind (arith, nat_tests)
 
-pub or_assoc : (a b c : Bool) → (a || (b || c)) ≡ ((a || b) || c)
-or_assoc true b c = refl
-or_assoc false b c = refl
-
 -- a span after the last of a merged list is after all of it
 pub last_before : (ss : List Span) (l t : Span) → is_merged (ss ++ l ∷ []) ≡ true → is_before l t ≡ true → all_before (ss ++ l ∷ []) t ≡ true
 last_before ss l t m b =
@@ -226,11 +223,6 @@ all_later g s ss a r =
     let v = and_parts (list_all (λ t. is_from (start_of s) (start_of t)) ss) (is_sorted ss) r in
     and_from (is_from g (start_of s)) (list_all (λ t. is_from g (start_of t)) ss) a
     (all_weaker (λ t. is_from (start_of s) (start_of t)) (λ t. is_from g (start_of t)) ss (λ t h. from_trans g (start_of s) (start_of t) a h) v.0)
-
-pub or_swap : (a b c : Bool) → (a || (b || c)) ≡ (b || (a || c))
-or_swap true true c = refl
-or_swap true false c = refl
-or_swap false b c = refl
 
 pub takes_left : (left right : List Span) (a : Span) (more : List Span) → left ≡ a ∷ more → is_sorted left ≡ true → is_sorted right ≡ true → list_all (λ t. is_from (start_of a) (start_of t)) right ≡ true → TakesFirst left right a more right
 takes_left left right a more e l r later =

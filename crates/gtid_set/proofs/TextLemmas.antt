@@ -1,5 +1,5 @@
 -- The spans that a text parses as are filled, and sorted they are of the set that it parses as.
-use Rattle.std.proofs.Common.{◌≡◌, ◌⊎◌, ◌≤◌, ◌<◌, ℕ, Bool, true, false, cond, nat_le, nat_lt, List, [], ◌∷◌, length, refl, sym, ap, ◌∙◌, arith, inl, inr}
+use Rattle.std.proofs.Common.{◌≡◌, ◌⊎◌, ◌≤◌, ℕ, Bool, true, cond, nat_le, nat_lt, List, [], ◌∷◌, length, refl, sym, ap, ◌∙◌, arith, inl, inr}
 use Rattle.std.specs.Prelude.{Option, Some, None, Result, Ok, Err}
 use Rattle.std.specs.List.{list_all}
 use Rattle.std.specs.List.Sorted.{IsPermutation}
@@ -21,6 +21,7 @@ use Rattle.gtid_set.specs.Texts.{check_size, set_from, set_in}
 use Rattle.gtid_set.proofs.SortLemmas.{same_set_sorted}
 use Rattle.gtid_set.proofs.SpanLemmas.{all_joined}
 use Rattle.std.proofs.lemmas.Bool.{and_from}
+use Rattle.lemmas.proofs.Numbers.{lt_false, below_test}
 
 abbrev pub are_filled : List Span → Bool
 are_filled ss = list_all (λ s. nat_le s.lo s.hi) ss
@@ -65,25 +66,18 @@ memory_alone spans len f (inr e) = absurd cc
 pub set_read : (spans read sorted : List Span) (s : Gtids) → as_read spans ≡ as_read read → IsPermutation read sorted → set_of spans ≡ s → set_of sorted ≡ s
 set_read spans read sorted s e p view = same_set_sorted read sorted p ∙ ap set_of (sym (same_read spans read e)) ∙ view
 
--- the answer, where intervals were read
-is_small : (most n : ℕ) → n ≤ most → nat_lt most n ≡ false
-is_small most n le = grind (arith, nat_tests)
-
-is_great : (most n : ℕ) → most < n → nat_lt most n ≡ true
-is_great most n lt = grind (arith, nat_tests)
-
 pub fits_sized : (s : Gtids) → source_count s ≤ most_sources → interval_count s ≤ most_intervals → check_size s ≡ Ok s
 fits_sized s few small =
-    ap (λ b. cond b (Err (Set SourcesFull)) (cond (nat_lt most_intervals (interval_count s)) (Err (Set PoolFull)) (Ok s))) (is_small most_sources (source_count s) few)
-    ∙ ap (λ b. cond b (Err (Set PoolFull)) (Ok s)) (is_small most_intervals (interval_count s) small)
+    ap (λ b. cond b (Err (Set SourcesFull)) (cond (nat_lt most_intervals (interval_count s)) (Err (Set PoolFull)) (Ok s))) (lt_false most_sources (source_count s) few)
+    ∙ ap (λ b. cond b (Err (Set PoolFull)) (Ok s)) (lt_false most_intervals (interval_count s) small)
 
 pub full_sized : (s : Gtids) → HasManySources s → check_size s ≡ Err (Set SourcesFull)
-full_sized s many = ap (λ b. cond b (Err (Set SourcesFull)) (cond (nat_lt most_intervals (interval_count s)) (Err (Set PoolFull)) (Ok s))) (is_great most_sources (source_count s) many)
+full_sized s many = ap (λ b. cond b (Err (Set SourcesFull)) (cond (nat_lt most_intervals (interval_count s)) (Err (Set PoolFull)) (Ok s))) (below_test most_sources (source_count s) many)
 
 pub crowded_sized : (s : Gtids) → source_count s ≤ most_sources → HasManyIntervals s → check_size s ≡ Err (Set PoolFull)
 crowded_sized s few many =
-    ap (λ b. cond b (Err (Set SourcesFull)) (cond (nat_lt most_intervals (interval_count s)) (Err (Set PoolFull)) (Ok s))) (is_small most_sources (source_count s) few)
-    ∙ ap (λ b. cond b (Err (Set PoolFull)) (Ok s)) (is_great most_intervals (interval_count s) many)
+    ap (λ b. cond b (Err (Set SourcesFull)) (cond (nat_lt most_intervals (interval_count s)) (Err (Set PoolFull)) (Ok s))) (lt_false most_sources (source_count s) few)
+    ∙ ap (λ b. cond b (Err (Set PoolFull)) (Ok s)) (below_test most_intervals (interval_count s) many)
 
 given_sized : (text : List ℕ) (spans : List Span) → spans_in text ≡ as_read spans → set_in text ≡ check_size (set_of spans)
 unfolding set_in

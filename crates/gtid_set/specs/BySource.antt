@@ -1,4 +1,4 @@
--- Sets gone over source by source.
+-- Walks over sets, source by source.
 use Rattle.std.specs.Prelude.{◌≡◌, ◌⊎◌, ◌<◌, ℕ, Bool, true, not, ◌&&◌, ◌||◌, nat_le, nat_lt, List, ◌∷◌, ◌++◌, length}
 use Rattle.std.specs.List.{list_all}
 use Rattle.std.specs.FinSet as set
@@ -6,7 +6,7 @@ use Rattle.interval_pool.specs.declared.interval.Interval.{Interval}
 use Rattle.interval_pool.specs.Values.{PoolValue}
 use Rattle.gtid_text.specs.declared.Gtid.{Gtid}
 use Rattle.gtid_text.specs.declared.Span.{Span}
-use Rattle.gtid_set.specs.declared.sources.Source.{Source}
+use Rattle.gtid_set.specs.declared.sources.SourceList.{SourceList}
 use Rattle.gtid_set.specs.declared.combine.Operation.{Operation}
 use Rattle.gtid_set.specs.declared.combine.Operation.TheVariants.{Union, Difference, Intersection}
 use Rattle.gtid_set.specs.declared.fault.SetFault.{SetFault}
@@ -28,7 +28,7 @@ abbrev pub are_below : ℕ → List Span → Bool
 are_below id ss = list_all (λ s. nat_lt s.source id) ss
 
 -- sources are ascending, and each has a list with intervals
-pub record AreLists (p : PoolValue) (sources : List Source) (order : List ℕ) : Type 0 where
+pub record AreLists (p : PoolValue) (sources : List SourceList) (order : List ℕ) : Type 0 where
   pub places : are_places sources order ≡ true
   pub rising : are_ascending (sources_at sources order) ≡ true
   pub filled : list_all (is_filled p) (sources_at sources order) ≡ true
@@ -75,6 +75,6 @@ combination Union s t = set.union s t
 combination Difference s t = set.difference s t
 combination Intersection s t = set.intersection s t
 
--- memory was refused, or the spans are too many
+-- out of memory, or the spans are too many
 abbrev pub IsTooLong : List Span → SetFault → Type 0
 IsTooLong ss f = IsMemoryOr ⊥ (most_intervals < length ss) f

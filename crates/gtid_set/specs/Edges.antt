@@ -40,7 +40,7 @@ HasEnds places g = (set.contains places g ≡ true) × (set.contains places (nex
 abbrev pub AreManyEdges : Gtids → Type 0
 AreManyEdges places = 2 * most_intervals < set.len places
 
--- whatever has all of some places has so many: a set with no edge elsewhere has too many intervals
+-- whatever has all of some places has many of them (`AreManyEdges`): a set with no edge elsewhere has too many intervals
 abbrev pub IsCrowd : (Gtids → Type 0) → Type 0
 IsCrowd Has = (places : Gtids) → Has places → AreManyEdges places
 

@@ -28,7 +28,7 @@ HasManySources s = most_sources < source_count s
 abbrev pub HasManyIntervals : Gtids → Type 0
 HasManyIntervals s = most_intervals < interval_count s
 
--- Why a call that makes a set fails: memory was refused, or the set would have too many sources, or too many intervals.
+-- Why a call that makes a set fails: out of memory, or the set would have too many sources, or too many intervals.
 abbrev pub IsMemoryOr : Type 0 → Type 0 → SetFault → Type 0
 IsMemoryOr ManySources ManyIntervals Memory = Unit {0}
 IsMemoryOr ManySources ManyIntervals PoolFull = ManyIntervals
@@ -38,7 +38,8 @@ IsMemoryOr ManySources ManyIntervals SourcesFull = ManySources
 abbrev pub IsFaultOf : SetFault → Gtids → Type 0
 IsFaultOf f s = IsMemoryOr (HasManySources s) (HasManyIntervals s) f
 
--- A call is refused for the sources of the set that it would make exactly where there are too many, and else for its intervals exactly where there are too many.
+-- A call is refused for the sources of the set that it would make if and only if they are too many, and else for its intervals if and only
+-- if they are too many.
 abbrev pub IsFullExactly : {T : Type 0} → Result T SetFault → Gtids → Type 0
 IsFullExactly (Ok _) s = (source_count s ≤ most_sources) × (interval_count s ≤ most_intervals)
 IsFullExactly (Err Memory) s = source_count s ≤ most_sources

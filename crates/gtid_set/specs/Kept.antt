@@ -6,7 +6,7 @@ use Rattle.gtid_text.specs.declared.Span.{Span}
 use Rattle.interval_pool.specs.declared.interval.Interval.{Interval}
 use Rattle.interval_pool.specs.Intervals.{covers, has as has_number}
 use Rattle.interval_pool.specs.Values.{PoolValue, slot_at, is_list, AreAmong, intervals_of, spans, cells_of, first_cell}
-use Rattle.gtid_set.specs.declared.sources.Source.{Source}
+use Rattle.gtid_set.specs.declared.sources.SourceList.{SourceList}
 use Rattle.gtid_set.specs.declared.cursor.Place.{Place}
 use Rattle.gtid_set.specs.Sets.{most_sources, source_count}
 use Rattle.gtid_set.specs.Full.{most_intervals}
@@ -23,46 +23,46 @@ abbrev pub interval_of : Span → Interval
 interval_of s = record { lo = s.lo; hi = s.hi }
 
 -- the spans of one source, and of sources one after another
-abbrev pub spans_in : PoolValue → Source → List Span
+abbrev pub spans_in : PoolValue → SourceList → List Span
 spans_in p s = map (span_of s.id) (spans p s.list)
 
-abbrev pub spans_of : PoolValue → List Source → List Span
+abbrev pub spans_of : PoolValue → List SourceList → List Span
 spans_of p [] = []
 spans_of p (s ∷ ss) = spans_in p s ++ spans_of p ss
 
 -- the source at a place; beyond the last none that has intervals
-abbrev pub source_at : List Source → ℕ → Source
+abbrev pub source_at : List SourceList → ℕ → SourceList
 source_at sources i = slice_index_or sources i (record { id = 0; list = 0 })
 
 -- the sources at places
-abbrev pub sources_at : List Source → List ℕ → List Source
+abbrev pub sources_at : List SourceList → List ℕ → List SourceList
 sources_at sources order = map (source_at sources) order
 
-abbrev pub are_places : List Source → List ℕ → Bool
+abbrev pub are_places : List SourceList → List ℕ → Bool
 are_places sources order = list_all (λ i. nat_lt i (length sources)) order
 
-abbrev pub flat : PoolValue → List Source → List ℕ → List Span
+abbrev pub flat : PoolValue → List SourceList → List ℕ → List Span
 flat p sources order = spans_of p (sources_at sources order)
 
 -- each source is less than the later ones
-abbrev pub are_ascending : List Source → Bool
+abbrev pub are_ascending : List SourceList → Bool
 are_ascending [] = true
 are_ascending (s ∷ ss) = list_all (λ t. nat_lt s.id t.id) ss && are_ascending ss
 
 -- a source has a list with intervals
-abbrev pub is_filled : PoolValue → Source → Bool
+abbrev pub is_filled : PoolValue → SourceList → Bool
 is_filled p s = is_list p s.list && nat_lt 0 (length (spans p s.list))
 
 -- no two have one list
-abbrev pub have_own : List Source → Bool
+abbrev pub have_own : List SourceList → Bool
 have_own [] = true
 have_own (s ∷ ss) = list_all (λ t. not (t.list == s.list)) ss && have_own ss
 
-abbrev pub lists_of : List Source → List ℕ
+abbrev pub lists_of : List SourceList → List ℕ
 lists_of ss = map (λ s. s.list) ss
 
 -- Sources are ascending, and each has a list of its own, with intervals; the pool has no other lists.
-pub record IsKeptIn (p : PoolValue) (sources : List Source) (order : List ℕ) : Type 0 where
+pub record IsKeptIn (p : PoolValue) (sources : List SourceList) (order : List ℕ) : Type 0 where
   pub places : are_places sources order ≡ true
   pub as_many : length order ≡ length sources
   pub few : length order ≤ most_sources
@@ -75,34 +75,34 @@ pub record IsKeptIn (p : PoolValue) (sources : List Source) (order : List ℕ) :
   pub small : length (flat p sources order) ≤ most_intervals
 
 -- whether the source at a place is less than another
-abbrev pub comes_before : List Source → ℕ → ℕ → Bool
+abbrev pub comes_before : List SourceList → ℕ → ℕ → Bool
 comes_before sources id i = nat_lt i (length sources) && nat_lt (source_at sources i).id id
 
 -- the place of a source among others: those before it are less, and those from there on are not
-pub record IsSourcePlace (ss : List Source) (id at : ℕ) : Type 0 where
+pub record IsSourcePlace (ss : List SourceList) (id at : ℕ) : Type 0 where
   pub bound : at ≤ length ss
   pub before : list_all (λ s. nat_lt s.id id) (take at ss) ≡ true
   pub behind : list_all (λ s. not (nat_lt s.id id)) (drop at ss) ≡ true
 
 -- one of the sources has the number
-abbrev pub knows : PoolValue → List Source → Gtid → Bool
+abbrev pub knows : PoolValue → List SourceList → Gtid → Bool
 knows p ss q = list_any (λ s. (q.source == s.id) && has_number (spans p s.list) q.number) ss
 
 -- the source at a place has this identifier, or none is there that has
-pub record IsSourceAt (ss : List Source) (at id : ℕ) (s : Source) : Type 0 where
+pub record IsSourceAt (ss : List SourceList) (at id : ℕ) (s : SourceList) : Type 0 where
   pub got : slice_get ss at ≡ Some s
   pub same : s.id ≡ id
 
-abbrev pub IsNoSourceAt : List Source → ℕ → ℕ → Type 0
-IsNoSourceAt ss at id = (s : Source) → slice_get ss at ≡ Some s → s.id ≢ id
+abbrev pub IsNoSourceAt : List SourceList → ℕ → ℕ → Type 0
+IsNoSourceAt ss at id = (s : SourceList) → slice_get ss at ≡ Some s → s.id ≢ id
 
 -- one of the sources, with this identifier
-pub record IsSourceOf (ss : List Source) (s : Source) (id : ℕ) : Type 0 where
+pub record IsSourceOf (ss : List SourceList) (s : SourceList) (id : ℕ) : Type 0 where
   pub at : ℕ
   pub got : slice_get ss at ≡ Some s
   pub same : s.id ≡ id
 
-abbrev pub are_others : ℕ → List Source → Bool
+abbrev pub are_others : ℕ → List SourceList → Bool
 are_others id ss = list_all (λ s. not (id == s.id)) ss
 
 -- ---- changes
@@ -121,14 +121,14 @@ pub record Lists (p : PoolValue) (l : ℕ) (s : Interval) (q : PoolValue) : Type
   pub others : KeepsBut p q l
   pub numbers : (n : ℕ) → has_number (spans q l) n ≡ covers s n
 
--- Why there is no list more: memory was refused, or the lists that a caller knows are all that there may be, or their intervals.
+-- Why there is no further list: out of memory, or the lists that a caller knows are all that there may be, or their intervals are.
 abbrev pub IsListFault : SetFault → PoolValue → Type 0
 IsListFault faults.Memory p = Unit {0}
 IsListFault faults.PoolFull p = (lists : List ℕ) → AreAmong p lists → (most_intervals ≤ intervals_of p lists) ⊎ (most_intervals ≤ length lists)
 IsListFault faults.SourcesFull p = ⊥
 
 -- the spans are joined with one more
-pub record Grown (p : PoolValue) (sources : List Source) (order : List ℕ) (t : Span) (q : PoolValue) (sources' : List Source) (order' : List ℕ) : Type 0 where
+pub record Grown (p : PoolValue) (sources : List SourceList) (order : List ℕ) (t : Span) (q : PoolValue) (sources' : List SourceList) (order' : List ℕ) : Type 0 where
   pub kept : IsKeptIn q sources' order'
   pub list : IsListOf (λ g. within t g || has (flat p sources order) g) (flat q sources' order')
 
@@ -137,12 +137,12 @@ abbrev pub spans_as : ℕ → List Interval → List Span
 spans_as id is = map (span_of id) is
 
 -- spans of a source that is there come after all others
-pub record IsRun (p : PoolValue) (sources : List Source) (order : List ℕ) (id : ℕ) (is : List Interval) (q : PoolValue) : Type 0 where
+pub record IsRun (p : PoolValue) (sources : List SourceList) (order : List ℕ) (id : ℕ) (is : List Interval) (q : PoolValue) : Type 0 where
   pub kept : IsKeptIn q sources order
   pub parts : flat q sources order ≡ flat p sources order ++ spans_as id is
 
 -- they are as they were
-pub record Stays (p : PoolValue) (sources : List Source) (order : List ℕ) (q : PoolValue) (sources' : List Source) (order' : List ℕ) : Type 0 where
+pub record Stays (p : PoolValue) (sources : List SourceList) (order : List ℕ) (q : PoolValue) (sources' : List SourceList) (order' : List ℕ) : Type 0 where
   pub kept : IsKeptIn q sources' order'
   pub same : flat q sources' order' ≡ flat p sources order
 
@@ -152,12 +152,12 @@ pub record Stays (p : PoolValue) (sources : List Source) (order : List ℕ) (q :
 abbrev pub spans_from : PoolValue → Place → List Span
 spans_from p at = map (span_of at.source.id) (drop at.passed (spans p at.source.list))
 
-abbrev pub cursor_view : PoolValue → List Source → List ℕ → Option Place → List Span
+abbrev pub cursor_view : PoolValue → List SourceList → List ℕ → Option Place → List Span
 cursor_view p sources behind None = []
 cursor_view p sources behind (Some at) = spans_from p at ++ spans_of p (sources_at sources behind)
 
--- an interval of a source's list, so many after the first, and the cell after it
-pub record IsPlaceIn (p : PoolValue) (s : Source) (n : ℕ) (at : Place) : Type 0 where
+-- an interval of a source's list, with how many come before it, and the cell after it
+pub record IsPlaceIn (p : PoolValue) (s : SourceList) (n : ℕ) (at : Place) : Type 0 where
   pub source : at.source ≡ s
   pub passed : at.passed ≡ n
   pub numbers : drop n (spans p s.list) ≡ at.numbers ∷ drop (n + 1) (spans p s.list)
@@ -165,16 +165,16 @@ pub record IsPlaceIn (p : PoolValue) (s : Source) (n : ℕ) (at : Place) : Type 
   pub len : at.len ≡ length (cells_of p s.list)
 
 -- the spans after a place
-abbrev pub spans_behind : PoolValue → List Source → List ℕ → Place → List Span
+abbrev pub spans_behind : PoolValue → List SourceList → List ℕ → Place → List Span
 spans_behind p sources behind at = map (span_of at.source.id) (drop (at.passed + 1) (spans p at.source.list)) ++ spans_of p (sources_at sources behind)
 
 -- a place of a list, and sources after it
-pub record IsAt (p : PoolValue) (sources : List Source) (behind : List ℕ) (at : Place) : Type 0 where
+pub record IsAt (p : PoolValue) (sources : List SourceList) (behind : List ℕ) (at : Place) : Type 0 where
   pub place : IsPlaceIn p at.source at.passed at
   pub passed : at.passed < at.len
   pub places : are_places sources behind ≡ true
   pub filled : list_all (is_filled p) (sources_at sources behind) ≡ true
 
-abbrev pub IsCursor : PoolValue → List Source → List ℕ → Option Place → Type 0
+abbrev pub IsCursor : PoolValue → List SourceList → List ℕ → Option Place → Type 0
 IsCursor p sources behind None = Unit {0}
 IsCursor p sources behind (Some at) = IsAt p sources behind at

@@ -21,7 +21,7 @@ abbrev pub in_order : List Gtid → List Gtid
 in_order [] = []
 in_order (g ∷ gs) = place g (in_order gs)
 
--- a GTID before runs: it goes into the first where that begins with the next number
+-- a GTID before runs: it goes into the first one if that begins with the next number
 abbrev pub run_before : Gtid → List Span → List Span
 run_before g [] = record { source = g.source; lo = g.number; hi = g.number } ∷ []
 run_before g (s ∷ ss) =

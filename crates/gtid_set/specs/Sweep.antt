@@ -149,7 +149,7 @@ is_kept source wanted other = if other == source then wanted else not wanted
 abbrev pub size_of : Span → ℕ
 size_of s = s.hi + 1 - s.lo
 
--- the numbers of a span are in range, where it has one
+-- the numbers of a span are in range, if it has one
 abbrev pub is_in_range : Span → Bool
 is_in_range s = nat_le 1 s.lo && nat_le s.hi 9223372036854775807
 

@@ -17,7 +17,7 @@ use Rattle.gtid_set.specs.Full.{IsFullExactly, interval_count, most_intervals}
 abbrev pub ParsesAsSet : List ℕ → Gtids → Type 0
 ParsesAsSet text s = (spans : List Span) × ParsesAs text spans × (set_of spans ≡ s)
 
--- memory was refused
+-- out of memory
 abbrev pub IsOutOfMemory : SetTextFault → Type 0
 IsOutOfMemory (Text f) = f ≡ faults.Memory
 IsOutOfMemory (Set f) = f ≡ Memory
@@ -46,7 +46,7 @@ set_from (Err fault) = Err (Text fault)
 unfoldable pub set_in : List ℕ → Result Gtids SetTextFault
 set_in text = set_from (answer (length text) (spans_in text))
 
--- what a function returned is the answer, unless memory was refused
+-- what a function returned is the answer, unless out of memory
 abbrev pub GivesSet : Result Gtids SetTextFault → Result Gtids SetTextFault → Type 0
 GivesSet (Ok s) read = read ≡ Ok s
 GivesSet (Err f) read = IsOutOfMemory f ⊎ (read ≡ Err f)

@@ -1,11 +1,11 @@
-//! A set gone over source by source.
+//! A walk over a set, source by source.
 ghost use Rattle.std.specs.Prelude.{◌≡◌, ◌<◌, [], true, IfSome, None, length};
 ghost use Rattle.std.specs.List.{concat, list_all};
 ghost use Rattle.gtid_set.specs.Kept.{are_places, are_ascending, is_filled, sources_at, source_at, spans_of};
 ghost use Rattle.gtid_set.specs.BySource.{IsFirstSource, IsNextSource, TakesSource, are_from};
 
 use crate::order::{Block, Places};
-use crate::sources::{Source, source_of};
+use crate::sources::{SourceList, source_of};
 use gtid_text::SourceId;
 use interval_pool::{Pool, Walk};
 use std::marker::Model;
@@ -14,7 +14,7 @@ use std::marker::Model;
 #[derive(Drop)]
 pub struct SourceLists<'a> {
     pool: &'a Pool,
-    sources: &'a [Source],
+    sources: &'a [SourceList],
     order: Places<'a>,
 }
 
@@ -33,7 +33,7 @@ impl<'a> Model for SourceLists<'a> {
 
 impl<'a> SourceLists<'a> {
     /// All sources of a set.
-    pub fn of(pool: &'a Pool, sources: &'a [Source], order: &'a [Block]) -> SourceLists<'a>
+    pub fn of(pool: &'a Pool, sources: &'a [SourceList], order: &'a [Block]) -> SourceLists<'a>
         requires places { are_places sources.now (concat order.now) ≡ true }
         requires rising { are_ascending (sources_at sources.now (concat order.now)) ≡ true }
         requires filled { list_all (is_filled pool.now) (sources_at sources.now (concat order.now)) ≡ true }
@@ -58,7 +58,7 @@ impl<'a> SourceLists<'a> {
         Some(source_of(self.sources, at).id)
     }
 
-    /// Takes the numbers of a source that none comes before; there are none where it is not the first.
+    /// Takes the numbers of a source that no other comes before; there are none if it is not the first.
     pub fn take(&mut self, id: SourceId) -> Walk<'a>
         requires { are_from id self.old ≡ true }
         ensures { TakesSource self.old id result self.new }

@@ -14,7 +14,7 @@ use crate::numbers;
 use interval_pool::{Interval, Walk};
 use std::alloc::{AllocError, Global};
 
-/// What is made of two sets.
+/// An operation on two sets.
 #[derive(Clone, Copy, Drop)]
 pub enum Operation {
     Union,
@@ -22,7 +22,7 @@ pub enum Operation {
     Intersection,
 }
 
-/// Writes what is made of two lists of one source over other intervals.
+/// Overwrites `run` with the result of an operation on two lists of one source.
 #[inline(always)]
 fn sweep(
     operation: Operation,
@@ -41,7 +41,7 @@ fn sweep(
     }
 }
 
-/// The spans that are made of two sets.
+/// The spans of the result of an operation on two sets.
 pub fn combine(
     alloc: Global,
     operation: Operation,

@@ -5,7 +5,7 @@ ghost use Rattle.interval_pool.specs.Values.{cells_of, first_cell};
 ghost use Rattle.gtid_set.specs.Kept.{are_places, is_filled, sources_at, spans_of, IsPlaceIn};
 
 use crate::order::{Block, Places};
-use crate::sources::{Source, source_of};
+use crate::sources::{SourceList, source_of};
 use gtid_text::Span;
 use interval_pool::{Interval, Pool};
 use std::marker::Model;
@@ -13,7 +13,7 @@ use std::marker::Model;
 /// An interval of a source's list, the cell after it, how many intervals of the list lie before, and how many it has.
 #[derive(Clone, Copy, Drop)]
 struct Place {
-    source: Source,
+    source: SourceList,
     numbers: Interval,
     next: Option<u32>,
     passed: u32,
@@ -24,7 +24,7 @@ struct Place {
 #[derive(Drop)]
 pub struct Cursor<'a> {
     pool: &'a Pool,
-    sources: &'a [Source],
+    sources: &'a [SourceList],
     // the places of the sources that follow
     behind: Places<'a>,
     at: Option<Place>,
@@ -42,9 +42,9 @@ impl<'a> Model for Cursor<'a> {
     ghost invariant = { λ c. IsCursor c.pool.now c.sources.now c.behind c.at };
 }
 
-/// The place of a cell, so many after the first of its list.
+/// The place of a cell, which is `passed` cells after the first of its list.
 #[inline(always)]
-fn place_of_cell(pool: &Pool, source: Source, cell: u32, passed: u32, len: u32) -> Place
+fn place_of_cell(pool: &Pool, source: SourceList, cell: u32, passed: u32, len: u32) -> Place
     requires cell { first_cell (drop passed (cells_of pool.now source.list)) ≡ Some cell }
     requires len { len ≡ length (cells_of pool.now source.list) }
     ensures { IsPlaceIn pool.now source passed result }
@@ -59,7 +59,7 @@ fn place_of_cell(pool: &Pool, source: Source, cell: u32, passed: u32, len: u32) 
 }
 
 /// The first place in the list of a source.
-fn begin(pool: &Pool, source: Source) -> Option<Place>
+fn begin(pool: &Pool, source: SourceList) -> Option<Place>
     requires { is_filled pool.now source ≡ true }
     ensures begins { IfSome result (IsPlaceIn pool.now source 0) }
     ensures there { IsSome result }
@@ -71,7 +71,7 @@ fn begin(pool: &Pool, source: Source) -> Option<Place>
 }
 
 /// The spans of sources.
-fn over<'a>(pool: &'a Pool, sources: &'a [Source], order: Places<'a>) -> Cursor<'a>
+fn over<'a>(pool: &'a Pool, sources: &'a [SourceList], order: Places<'a>) -> Cursor<'a>
     requires places { are_places sources.now order ≡ true }
     requires filled { list_all (is_filled pool.now) (sources_at sources.now order) ≡ true }
     ensures { result ≡ spans_of pool.now (sources_at sources.now order.entry) }
@@ -99,7 +99,7 @@ fn over<'a>(pool: &'a Pool, sources: &'a [Source], order: Places<'a>) -> Cursor<
 
 impl<'a> Cursor<'a> {
     /// The spans of sources.
-    pub fn over(pool: &'a Pool, sources: &'a [Source], order: &'a [Block]) -> Cursor<'a>
+    pub fn over(pool: &'a Pool, sources: &'a [SourceList], order: &'a [Block]) -> Cursor<'a>
         requires places { are_places sources.now (concat order.now) ≡ true }
         requires filled { list_all (is_filled pool.now) (sources_at sources.now (concat order.now)) ≡ true }
         ensures { result ≡ spans_of pool.now (sources_at sources.now (concat order.now)) }
@@ -134,7 +134,7 @@ impl<'a> Cursor<'a> {
         }
     }
 
-    /// Goes after the first span, if there is one.
+    /// Moves past the first span, if there is one.
     #[inline(always)]
     pub fn advance(&mut self)
         ensures { self.new ≡ drop 1 self.old }

@@ -10,7 +10,7 @@ use thiserror::Error;
 /// Why a set was not made or changed. The limits are our own rule.
 #[derive(Clone, Copy, Debug, PartialEq, Eq, Error)]
 pub enum SetFault {
-    /// Memory was refused.
+    /// Out of memory.
     #[error("out of memory")]
     Memory,
     /// The pool of intervals has no room left.
@@ -51,7 +51,7 @@ impl From<PoolFault> for SetFault {
 /// Why a text was not read as a set.
 #[derive(Clone, Copy, Debug, PartialEq, Eq, Error)]
 pub enum SetTextFault {
-    /// The text parses as no set, or memory was refused while a set's text was read.
+    /// The text parses as no set, or out of memory while a set's text was read.
     #[error("{0}")]
     Text(TextFault),
     /// The set could not be made.

@@ -13,7 +13,7 @@ use gtid_text::{SourceId, Span};
 use interval_pool::Interval;
 use std::alloc::{AllocError, Global};
 
-/// Writes the merged intervals of the first spans, as far as they are of a source, over others, and answers the spans after them.
+/// Overwrites `run` with the merged intervals of the first spans, as far as they are of one source, and returns the spans after them.
 fn join_source<'a>(
     run: &mut Vec<Interval>,
     id: SourceId,
@@ -41,7 +41,7 @@ fn join_source<'a>(
     Ok(rest)
 }
 
-/// The merged spans of all that a list has, of not too many sources.
+/// The merged spans of a list, whose sources are not too many.
 pub fn gather(alloc: Global, spans: &[Span]) -> Result<Kept, SetFault>
     requires rises { is_sorted spans.now ≡ true }
     requires fits { source_count (set_of spans.now) ≤ most_sources }

@@ -15,7 +15,7 @@ use crate::by_source::SourceLists;
 use crate::cursor::Cursor;
 use crate::fault::SetFault;
 use crate::order::{Block, Seat, copy_order, place_at, put};
-use crate::sources::{Source, find, find_in_place, find_last, find_near, seat_of};
+use crate::sources::{SourceList, find, find_in_place, find_last, find_near, seat_of};
 use gtid_text::{Gtid, SourceId, Span};
 use interval_pool::{Interval, ListId, Pool};
 use std::alloc::{AllocError, Global};
@@ -29,10 +29,10 @@ pub const MOST_SOURCES: usize = 65_536;
 pub struct Kept {
     pool: Pool,
     // the sources as they came
-    sources: Vec<Source>,
+    sources: Vec<SourceList>,
     // their places in blocks, by source
     order: Vec<Block>,
-    // at which place a source is looked for first: guesses, by `slot_of`
+    // the place where the search for a source begins: guesses, by `slot_of`
     guesses: [u16; 16],
 }
 
@@ -46,7 +46,7 @@ fn slot_of(id: SourceId) -> usize
 }
 
 /// The last place of a source.
-fn last_of(sources: &[Source]) -> u16 {
+fn last_of(sources: &[SourceList]) -> u16 {
     (sources.len().saturating_sub(1) % 65_536) as u16
 }
 
@@ -76,9 +76,9 @@ fn numbers(span: &Span) -> Interval
 /// Adds the numbers of a span to the list of its source.
 fn add_to(
     pool: &mut Pool,
-    sources: &[Source],
+    sources: &[SourceList],
     order: &[Block],
-    source: Source,
+    source: SourceList,
     span: &Span,
 ) -> Result<(), SetFault>
     requires kept { IsKeptIn pool.old sources.now (concat order.now) }
@@ -98,12 +98,12 @@ fn add_to(
     }
 }
 
-/// Puts the numbers of a span after those of its source.
+/// Appends the numbers of a span to those of its source.
 fn append_to(
     pool: &mut Pool,
-    sources: &[Source],
+    sources: &[SourceList],
     order: &[Block],
-    source: Source,
+    source: SourceList,
     span: &Span,
 ) -> Result<(), SetFault>
     requires kept { IsKeptIn pool.old sources.now (concat order.now) }
@@ -147,7 +147,7 @@ fn open_list(pool: &mut Pool, numbers: Interval) -> Result<ListId, SetFault>
 /// Adds a span of a source that has none, whose place this is. An error leaves the others as they were.
 fn insert(
     pool: &mut Pool,
-    sources: &mut Vec<Source>,
+    sources: &mut Vec<SourceList>,
     order: &mut Vec<Block>,
     at: Seat,
     span: &Span,
@@ -175,7 +175,7 @@ fn insert(
     match put(order, at, count as u16) {
         Ok(()) => {
             let id = span.source;
-            sources.push_reserved(Source { id, list: opened });
+            sources.push_reserved(SourceList { id, list: opened });
             pool.partition();
             Ok(())
         }
@@ -186,10 +186,10 @@ fn insert(
     }
 }
 
-/// Puts a span after the others.
+/// Appends a span.
 fn push(
     pool: &mut Pool,
-    sources: &mut Vec<Source>,
+    sources: &mut Vec<SourceList>,
     order: &mut Vec<Block>,
     span: &Span,
 ) -> Result<(), SetFault>
@@ -212,12 +212,12 @@ fn push(
     }
 }
 
-/// Puts a source's intervals after all spans.
+/// Appends a source's intervals to the spans.
 fn extend_to(
     pool: &mut Pool,
-    sources: &[Source],
+    sources: &[SourceList],
     order: &[Block],
-    source: Source,
+    source: SourceList,
     run: &[Interval],
 ) -> Result<(), SetFault>
     requires kept { IsKeptIn pool.old sources.now (concat order.now) }
@@ -237,10 +237,10 @@ fn extend_to(
     }
 }
 
-/// Puts a source's intervals after all spans.
+/// Appends a source's intervals to the spans.
 fn put_run(
     pool: &mut Pool,
-    sources: &mut Vec<Source>,
+    sources: &mut Vec<SourceList>,
     order: &mut Vec<Block>,
     id: SourceId,
     run: &[Interval],
@@ -269,7 +269,7 @@ fn put_run(
 }
 
 impl Kept {
-    /// No spans. Does not allocate.
+    /// A list without spans. It does not allocate.
     pub fn open(alloc: Global) -> Kept
         ensures { result ≡ [] }
     {
@@ -295,7 +295,7 @@ impl Kept {
         SourceLists::of(&self.pool, &self.sources, &self.order)
     }
 
-    /// Puts a source's intervals after all spans. An error leaves some of them there.
+    /// Appends a source's intervals to the spans. An error leaves some of them there.
     pub fn put(&mut self, id: SourceId, run: &[Interval]) -> Result<(), SetFault>
         requires merged { is_merged (self.old ++ spans_as id run.now) ≡ true }
         requires fits { source_count (set_of (self.old ++ spans_as id run.now)) ≤ most_sources }
@@ -367,7 +367,7 @@ impl Kept {
         }
     }
 
-    /// Joins a span to the others, once the seat of its source was searched for. An error leaves them as they were.
+    /// Joins a span to the others by a search for the seat of its source. An error leaves them as they were.
     #[inline(never)]
     fn add_by_search(&mut self, span: Span) -> Result<(), SetFault>
         requires filled { span.lo ≤ span.hi }
@@ -390,7 +390,7 @@ impl Kept {
         Ok(())
     }
 
-    /// Keeps the place at a seat as the guess of a source; past all seats it is the last place.
+    /// Remembers the place at a seat as the guess of a source; past all seats it is the last place.
     fn note(&mut self, id: SourceId, at: Seat)
         ensures { self.new ≡ self.old }
     {

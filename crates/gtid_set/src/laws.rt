@@ -39,7 +39,8 @@ pub fn text_reads_back()
     ensures injective { CanonicalIsInjective }
 {}
 
-/// The one answer to a text is the set that it parses as, where that has not too many sources or intervals, and is a set for no other text.
+/// The one answer to a text is the set that it parses as, unless that has too many sources or intervals; no other text is answered with a
+/// set.
 pub fn text_parses_exactly()
     ensures found { FoundIsSetText }
     ensures only { SetTextIsFound }

@@ -3,18 +3,20 @@
 //! What a contract sees: a `GtidSet` is the finite set of its pairs (source, number), and two sets with the same members are equal. Each
 //! operation is that of finite sets. No interval, list or cell is named above this crate.
 //!
-//! A set has at most 65,536 sources and 4,294,967,294 intervals; a call is refused for that exactly where its result would have more
-//! (`full`), and because an allocation failed only where the sources are not too many: `has_room_for` and `has_room_for_all` ask that without memory.
-//! Intervals are bounded by the edges of a set, the places where membership changes: what is made of two sets has no edge that neither of
-//! them has (`laws::intervals_add_up`), so the crates above state by edges where a set may be full.
+//! A set has at most 65,536 sources and 4,294,967,294 intervals; a call is refused for that if and only if its result would have more
+//! (`full`), and because an allocation failed only if the sources are not too many: `has_room_for` and `has_room_for_all` test that without
+//! an allocation. Intervals are bounded by the edges of a set, the places where membership changes: what is made of two sets has no edge
+//! that neither of them has (`laws::intervals_add_up`), so the crates above state by edges when a set may be full.
 //!
 //! How it is kept: the intervals are in one pool (`interval_pool`), a list of merged intervals for each source; the sources are kept as
 //! they came, and their places in order in blocks (`order`). A pass over two sets goes source by source, compares numbers alone, and writes
-//! the numbers of each source at once; its proof is about merged lists of spans. At which place a source is looked for first is a guess,
-//! one for each of 16 slots by its bits, and tested where it is used; else it is searched for. A text is parsed, its
-//! spans are sorted once, and the set is built once.
+//! the numbers of each source at once; its proof is about merged lists of spans. The search for a source begins at a guessed place, one for
+//! each of 16 slots by the source's bits; a guess is tested, and if it is wrong the source is searched for. A text is parsed, its spans are
+//! sorted once, and the set is built once.
 //!
-//! Cost, from the code and not proved: `add`, `contains` and `run_end` take as many steps as the number of intervals has binary digits, a
+//! A set shares its intervals with its copies (`copy`) until one of them is changed.
+//!
+//! Cost, from the code and not proved: `copy` none; `add`, `contains` and `run_end` take as many steps as the number of intervals has binary digits, a
 //! source's next number a few; union, difference, intersection and the tests are one pass over both; a new source moves some hundred
 //! places of its block, two bytes each.
 #![tactic(auto)]
@@ -41,6 +43,7 @@ mod kept;
 pub mod laws;
 mod numbers;
 mod order;
+mod shared;
 mod single;
 mod sources;
 mod sweep;
@@ -51,6 +54,7 @@ pub use fault::{SetFault, SetTextFault};
 use gather::gather;
 use gtid_text::{Gtid, SourceId, Span, parse_spans};
 use kept::{Kept, MOST_SOURCES};
+use shared::Shared;
 use std::alloc::{AllocError, Global};
 use std::marker::Model;
 
@@ -59,7 +63,7 @@ const GREATEST: u64 = 9_223_372_036_854_775_807;
 
 /// A set of GTIDs, as the MySQL 8.0 Reference Manual has it in "GTID Format and Storage". It has at most 65,536 sources and 4,294,967,294 intervals.
 pub struct GtidSet {
-    spans: Kept,
+    spans: Shared,
 }
 
 impl Drop for GtidSet {
@@ -84,8 +88,18 @@ impl Model for GtidSet {
     ghost invariant = { λ s. IsKept s.spans };
 }
 
+/// The set of spans that were made for it.
+fn made(alloc: Global, spans: Kept) -> Result<GtidSet, SetFault>
+    ensures ok { IfOk result (λ s. s ≡ set_of spans) }
+    ensures fault { IsOkUnless result Memory }
+{
+    spans.is_kept();
+    let spans = Shared::new(alloc, spans)?;
+    Ok(GtidSet { spans })
+}
+
 /// Whether two sets have too many sources together.
-fn have_many_sources(left: &Kept, right: &Kept) -> bool
+fn have_many_sources(left: &Shared, right: &Shared) -> bool
     ensures { result ≡ nat_lt most_sources (source_count (set.union (set_of left.now) (set_of right.now))) }
 {
     left.is_kept();
@@ -94,12 +108,12 @@ fn have_many_sources(left: &Kept, right: &Kept) -> bool
         && sweep::count_sources(left.cursor(), right.cursor()) > MOST_SOURCES as u64
 }
 
-/// The set that is made of two sets, where that has not too many sources.
+/// The result of an operation on two sets, unless it has too many sources.
 fn combination(
     alloc: Global,
     operation: Operation,
-    left: &Kept,
-    right: &Kept,
+    left: &Shared,
+    right: &Shared,
 ) -> Result<GtidSet, SetFault>
     requires left { is_merged left.now ≡ true }
     requires right { is_merged right.now ≡ true }
@@ -108,16 +122,13 @@ fn combination(
     ensures full { IsCrowdedExactly result (combination operation (set_of left.now) (set_of right.now)) }
 {
     match combine(alloc, operation, left.by_source(), right.by_source()) {
-        Ok(spans) => {
-            spans.is_kept();
-            Ok(GtidSet { spans })
-        }
+        Ok(spans) => made(alloc, spans),
         Err(fault) => Err(fault),
     }
 }
 
-/// The set of all that two sets have.
-fn union(alloc: Global, left: &Kept, right: &Kept) -> Result<GtidSet, SetFault>
+/// The union of two sets.
+fn union(alloc: Global, left: &Shared, right: &Shared) -> Result<GtidSet, SetFault>
     requires left { is_merged left.now ≡ true }
     requires right { is_merged right.now ≡ true }
     ensures ok { IfOk result (λ s. s ≡ set.union (set_of left.now) (set_of right.now)) }
@@ -129,8 +140,8 @@ fn union(alloc: Global, left: &Kept, right: &Kept) -> Result<GtidSet, SetFault>
     combination(alloc, Operation::Union, left, right)
 }
 
-/// The set of what the first of two sets has and the second has not.
-fn difference(alloc: Global, left: &Kept, right: &Kept) -> Result<GtidSet, SetFault>
+/// The difference of two sets.
+fn difference(alloc: Global, left: &Shared, right: &Shared) -> Result<GtidSet, SetFault>
     requires left { is_merged left.now ≡ true }
     requires right { is_merged right.now ≡ true }
     requires fits { source_count (set_of left.now) ≤ most_sources }
@@ -140,8 +151,8 @@ fn difference(alloc: Global, left: &Kept, right: &Kept) -> Result<GtidSet, SetFa
     combination(alloc, Operation::Difference, left, right)
 }
 
-/// The set of what both of two sets have.
-fn intersection(alloc: Global, left: &Kept, right: &Kept) -> Result<GtidSet, SetFault>
+/// The intersection of two sets.
+fn intersection(alloc: Global, left: &Shared, right: &Shared) -> Result<GtidSet, SetFault>
     requires left { is_merged left.now ≡ true }
     requires right { is_merged right.now ≡ true }
     requires fits { source_count (set_of left.now) ≤ most_sources }
@@ -151,7 +162,7 @@ fn intersection(alloc: Global, left: &Kept, right: &Kept) -> Result<GtidSet, Set
     combination(alloc, Operation::Intersection, left, right)
 }
 
-/// The set of spans that are sorted by where they start, of not too many sources.
+/// The set of spans that are sorted by their starts, of not too many sources.
 fn from_fitting_spans(alloc: Global, spans: &[Span]) -> Result<GtidSet, SetFault>
     requires rises { is_sorted spans.now ≡ true }
     requires fits { source_count (set_of spans.now) ≤ most_sources }
@@ -159,15 +170,12 @@ fn from_fitting_spans(alloc: Global, spans: &[Span]) -> Result<GtidSet, SetFault
     ensures full { IsCrowdedExactly result (set_of spans.now) }
 {
     match gather(alloc, spans) {
-        Ok(spans) => {
-            spans.is_kept();
-            Ok(GtidSet { spans })
-        }
+        Ok(spans) => made(alloc, spans),
         Err(fault) => Err(fault),
     }
 }
 
-/// The set of spans that are sorted by where they start, none of them reversed.
+/// The set of spans that are sorted by their starts, none of them reversed.
 fn from_spans(alloc: Global, spans: &[Span]) -> Result<GtidSet, SetFault>
     requires rises { is_sorted spans.now ≡ true }
     requires filled { list_all (λ s. nat_le s.lo s.hi) spans.now ≡ true }
@@ -181,7 +189,7 @@ fn from_spans(alloc: Global, spans: &[Span]) -> Result<GtidSet, SetFault>
 }
 
 /// Whether two sets are the same.
-fn are_equal(left: &Kept, right: &Kept) -> bool
+fn are_equal(left: &Shared, right: &Shared) -> bool
     requires left { is_merged left.now ≡ true }
     requires right { is_merged right.now ≡ true }
     ensures { IsTrue result ↔ (set_of left.now ≡ set_of right.now) }
@@ -195,7 +203,7 @@ fn are_equal(left: &Kept, right: &Kept) -> bool
 /// The set of one source's GTIDs, or of the others.
 fn of_source(
     alloc: Global,
-    spans: &Kept,
+    spans: &Shared,
     source: SourceId,
     wanted: bool,
 ) -> Result<GtidSet, SetFault>
@@ -214,9 +222,9 @@ impl GtidSet {
     pub fn empty(alloc: Global) -> Self
         ensures { result ≡ set.empty }
     {
-        GtidSet {
-            spans: Kept::open(alloc),
-        }
+        let spans = Shared::open(alloc);
+        spans.is_kept();
+        GtidSet { spans }
     }
 
     /// Whether the set has a GTID. It takes as many steps as the number of intervals has binary digits.
@@ -249,19 +257,22 @@ impl GtidSet {
         single::are_in_range(self.spans.cursor())
     }
 
-    /// Whether the set has not too many sources once it has a GTID more. It does not allocate, and no more than the search for a source.
+    /// Whether the set with one more GTID would not have too many sources. It costs no more than the search for a source, and does not
+    /// allocate.
     pub fn has_room_for(&self, gtid: &Gtid) -> bool
         ensures room { result ≡ true → source_count (set.insert self.now gtid.now) ≤ most_sources }
         ensures full { result ≡ false → HasManySources (set.insert self.now gtid.now) }
     {
-        self.spans.is_kept();
-        if self.spans.sources() < MOST_SOURCES {
-            return true;
-        }
-        self.spans.has_source(gtid.source)
+        let Gtid { source, number } = *gtid;
+        self.spans.has_room_for(&Span {
+            source,
+            lo: number,
+            hi: number,
+        })
     }
 
-    /// Whether the set and another have not too many sources together. It does not allocate: a look at the two counts, and a pass over both sets where these add up to too many.
+    /// Whether the set and another have not too many sources together. It does not allocate: it compares the two counts, and passes over
+    /// both sets only if their sum is too many.
     pub fn has_room_for_all(&self, other: &GtidSet) -> bool
         ensures room { result ≡ true → source_count (set.union self.now other.now) ≤ most_sources }
         ensures full { result ≡ false → HasManySources (set.union self.now other.now) }
@@ -269,7 +280,8 @@ impl GtidSet {
         !have_many_sources(&self.spans, &other.spans)
     }
 
-    /// Adds a GTID. After an error the set is as it was. The number after a source's last is added without a search among the intervals, unless intervals were put before them since.
+    /// Adds a GTID. After an error the set is as it was. The number after a source's last is added without a search among the intervals, unless
+    /// intervals were put before them since. A set that shares its intervals with a copy takes a copy of its own first.
     pub fn add(&mut self, gtid: Gtid) -> Result<(), SetFault>
         ensures ok { OnOk result (self.new ≡ set.insert self.old gtid) }
         ensures err { OnErr result (self.new ≡ self.old) }
@@ -297,7 +309,7 @@ impl GtidSet {
         Ok(())
     }
 
-    /// The same set.
+    /// The same set. The two share their intervals until one of them is changed, which then takes a copy of its own.
     pub fn copy(&self, alloc: Global) -> Result<GtidSet, SetFault>
         ensures ok { IfOk result (λ s. s ≡ self.now) }
         ensures fault { IsOkUnless result Memory }
@@ -345,7 +357,7 @@ impl GtidSet {
         are_apart(self.spans.by_source(), other.spans.by_source())
     }
 
-    /// The least number from 1 that the set has not got of a source, or none where it has all that a transaction may have.
+    /// The least number from 1 that the set lacks of a source, or none if it has all that a transaction may have.
     pub fn least_unused(&self, source: SourceId) -> Option<u64>
         ensures { result ≡ least_unused self.now source }
     {
@@ -356,7 +368,8 @@ impl GtidSet {
         }
     }
 
-    /// The last number up to which the set has all numbers of a source from a number on, or none where it has not got that number. It takes as many steps as the number of intervals has binary digits.
+    /// The last number up to which the set has all numbers of a source from a number on, or none if it lacks that number. It takes as many
+    /// steps as the number of intervals has binary digits.
     pub fn run_end(&self, source: SourceId, number: u64) -> Option<u64>
         ensures some { IfSome result (λ last. IsRunEnd self.now source number last) }
         ensures none { IfNone result (set.contains self.now (gtid source number) ≡ false) }
@@ -378,11 +391,11 @@ impl GtidSet {
 
     /// Reads the text of a set, whatever the order of its intervals.
     pub fn from_text(alloc: Global, text: &str) -> Result<GtidSet, SetTextFault>
-        // An accepted text is a text of this set by the grammar.
+        // An accepted text is a text of the resulting set by the grammar.
         ensures found { IfOk result (λ s. ParsesAsSet text.now s) }
         // A text of a set by the grammar is accepted as it, if memory and its sources allow.
         ensures only { (s : Gtids) → ParsesAsSet text.now s → IsReadAs result s }
-        // It is refused where the text parses as no set, or one with too many sources. Out of memory is answered to a set's text alone.
+        // It is refused if the text parses as no set, or one with too many sources. Out of memory is the answer to a set's text alone.
         ensures refused { IfErr result (λ fault. RefusesSet fault text.now) }
         // The result is the defined one, also which refusal it is.
         ensures exact { GivesSet result (set_in text.now) }

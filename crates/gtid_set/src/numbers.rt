@@ -24,7 +24,7 @@ fn is_before(numbers: Interval, next: Interval) -> bool
     numbers.hi < next.lo && next.lo - numbers.hi > 1
 }
 
-/// Whether an interval starts by the start of another.
+/// Whether an interval starts no later than another.
 #[inline(always)]
 fn starts_by(numbers: Interval, next: Interval) -> bool
     ensures { result ≡ is_from (start_of (numbered numbers)) (start_of (numbered next)) }
@@ -32,7 +32,7 @@ fn starts_by(numbers: Interval, next: Interval) -> bool
     numbers.lo <= next.lo
 }
 
-/// Goes to the first interval that doesn't end before another starts.
+/// Skips the intervals that end before `numbers` starts.
 #[inline(always)]
 fn skip(walk: &mut Walk<'_>, numbers: Interval)
     requires { is_merged (all_numbered walk.old) ≡ true }
@@ -46,7 +46,7 @@ fn skip(walk: &mut Walk<'_>, numbers: Interval)
     }
 }
 
-/// Adds an interval at the end, joined to the last where no number is missing between them. A reversed interval has no number.
+/// Appends an interval, joined to the last if no number is missing between them. A reversed interval has no number.
 #[inline(always)]
 pub fn join(out: &mut Vec<Interval>, numbers: Interval) -> Result<(), AllocError>
     requires merged { is_merged (all_numbered out.old.items) ≡ true }
@@ -82,7 +82,7 @@ fn is_met(first: Interval, numbers: Interval) -> bool
     first.lo <= numbers.hi
 }
 
-/// The first of the intervals, where it has a number of an interval that it reaches.
+/// The first of the intervals, if it has a number of `numbers`, which it reaches.
 #[inline(always)]
 fn first_overlapping(walk: &Walk<'_>, numbers: Interval) -> Option<Interval>
     requires merged { is_merged (all_numbered walk.now) ≡ true }
@@ -122,7 +122,7 @@ fn take_first(left: &mut Walk<'_>, right: &mut Walk<'_>) -> Option<Interval>
     Some(other)
 }
 
-/// Writes the merged intervals of all numbers of two lists over others.
+/// Overwrites `out` with the merged intervals of the numbers in either list.
 pub fn unite(out: &mut Vec<Interval>, left: Walk<'_>, right: Walk<'_>) -> Result<(), AllocError>
     requires left { is_sorted (all_numbered left) ≡ true }
     requires right { is_sorted (all_numbered right) ≡ true }
@@ -179,7 +179,7 @@ fn cut(out: &mut Vec<Interval>, numbers: Interval, holes: &Walk<'_>) -> Result<(
     Ok(())
 }
 
-/// Puts intervals after others.
+/// Appends the intervals of a walk.
 fn push_all(out: &mut Vec<Interval>, walk: Walk<'_>) -> Result<(), AllocError>
     ensures { OnOk result (all_numbered out.new.items ≡ all_numbered out.old.items ++ all_numbered walk.entry) }
 {
@@ -191,7 +191,7 @@ fn push_all(out: &mut Vec<Interval>, walk: Walk<'_>) -> Result<(), AllocError>
     Ok(())
 }
 
-/// Writes the merged intervals of what the first list has and the second has not over others.
+/// Overwrites `out` with the merged intervals of the numbers in the first list but not in the second.
 pub fn reduce(out: &mut Vec<Interval>, left: Walk<'_>, right: Walk<'_>) -> Result<(), AllocError>
     requires left { is_merged (all_numbered left) ≡ true }
     requires right { is_merged (all_numbered right) ≡ true }
@@ -232,7 +232,7 @@ fn overlap(out: &mut Vec<Interval>, numbers: Interval, others: &Walk<'_>) -> Res
     Ok(())
 }
 
-/// Writes the merged intervals of what both lists have over others.
+/// Overwrites `out` with the merged intervals of the numbers in both lists.
 pub fn overlay(out: &mut Vec<Interval>, left: Walk<'_>, right: Walk<'_>) -> Result<(), AllocError>
     requires left { is_merged (all_numbered left) ≡ true }
     requires right { is_merged (all_numbered right) ≡ true }

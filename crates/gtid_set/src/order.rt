@@ -1,4 +1,4 @@
-//! Places of sources in their order, kept in blocks, so that one more moves few of them.
+//! Places of sources in order, kept in blocks, so that an insertion moves few of them.
 ghost use Rattle.std.specs.Prelude.{◌≡◌, ◌≤◌, ◌<◌, ◌-◌, ◌++◌, ◌∷◌, [], drop, length, Some, None, IsSome, OnOk, OnErr, IfOk, IfSome, MatchOption, insert};
 ghost use Rattle.std.specs.List.{concat, slice_get};
 ghost use Rattle.gtid_set.specs.Order.{IsSeat, IsSettled, index_of};
@@ -6,7 +6,7 @@ ghost use Rattle.gtid_set.specs.Order.{IsSeat, IsSettled, index_of};
 use std::alloc::{AllocError, Global};
 use std::marker::Model;
 
-/// A block of more places is split in two where one is put between them.
+/// A block of more places is split in two when one is inserted.
 const LONG: usize = 512;
 
 /// Some places, one after another in the order.
@@ -39,7 +39,7 @@ impl Block {
         &self.places
     }
 
-    /// Puts a place more before some of the block. An error leaves all as it was.
+    /// Inserts a place into the block. An error leaves it as it was.
     fn put(&mut self, offset: usize, place: u16) -> Result<(), AllocError>
         requires { offset ≤ length self.old }
         ensures ok { OnOk result (self.new ≡ insert self.old offset place) }
@@ -110,7 +110,7 @@ fn split_block(order: &mut Vec<Block>, at: usize)
     let _ = order.insert(at + 1, upper);
 }
 
-/// Puts a place after all others. An error leaves them as they were.
+/// Appends a place. An error leaves the others as they were.
 fn put_last(order: &mut Vec<Block>, place: u16) -> Result<(), AllocError>
     ensures ok { OnOk result (concat order.new.items ≡ concat order.old.items ++ place ∷ []) }
     ensures err { OnErr result (concat order.new.items ≡ concat order.old.items) }
@@ -128,7 +128,7 @@ fn put_last(order: &mut Vec<Block>, place: u16) -> Result<(), AllocError>
     order[last].put(end, place)
 }
 
-/// Puts a place more at a seat. An error leaves the others as they were.
+/// Inserts a place at a seat. An error leaves the others as they were.
 pub fn put(order: &mut Vec<Block>, seat: Seat, place: u16) -> Result<(), AllocError>
     requires seat { IsSeat order.old.items seat }
     requires bound { index_of order.old.items seat ≤ length (concat order.old.items) }
@@ -230,7 +230,7 @@ impl<'a> Places<'a> {
         }
     }
 
-    /// Goes after the first place, if there is one.
+    /// Moves past the first place, if there is one.
     #[inline(always)]
     pub fn advance(&mut self)
         ensures { self.new ≡ drop 1 self.old }

@@ -9,7 +9,7 @@ use crate::cursor::Cursor;
 use gtid_text::{SourceId, Span};
 use std::alloc::{AllocError, Global};
 
-/// Adds a span at the end where it is wanted.
+/// Appends a span if it is wanted.
 fn push_if(out: &mut Vec<Span>, span: &Span, wanted: bool) -> Result<(), AllocError>
     ensures { OnOk result (out.new.items ≡ (if wanted then out.old.items ++ span.now ∷ [] else out.old.items)) }
 {

@@ -10,13 +10,13 @@ use interval_pool::ListId;
 
 /// A source, and the list of its numbers.
 #[derive(Clone, Copy, Drop)]
-pub struct Source {
+pub struct SourceList {
     pub id: SourceId,
     pub list: ListId,
 }
 
 /// Whether the source at a place is less than another.
-fn comes_before(sources: &[Source], at: u16, id: SourceId) -> bool
+fn comes_before(sources: &[SourceList], at: u16, id: SourceId) -> bool
     ensures { result ≡ comes_before sources.now id at }
 {
     let at = at as usize;
@@ -25,7 +25,7 @@ fn comes_before(sources: &[Source], at: u16, id: SourceId) -> bool
 
 /// The source at a place.
 #[inline(always)]
-pub fn source_of(sources: &[Source], at: u16) -> Source
+pub fn source_of(sources: &[SourceList], at: u16) -> SourceList
     requires { at < length sources.now }
     ensures { result ≡ source_at sources.now at }
 {
@@ -33,7 +33,7 @@ pub fn source_of(sources: &[Source], at: u16) -> Source
 }
 
 /// The source at a seat, if it has this identifier.
-pub fn find(sources: &[Source], order: &[Block], at: Seat, id: SourceId) -> Option<Source>
+pub fn find(sources: &[SourceList], order: &[Block], at: Seat, id: SourceId) -> Option<SourceList>
     requires { are_places sources.now (concat order.now) ≡ true }
     ensures some { IfSome result (IsSourceAt (sources_at sources.now (concat order.now)) (index_of order.now at) id) }
     ensures seat { IsSome result → IsSeat order.now at }
@@ -50,7 +50,7 @@ pub fn find(sources: &[Source], order: &[Block], at: Seat, id: SourceId) -> Opti
 }
 
 /// The last source, if it has this identifier.
-pub fn find_last(sources: &[Source], order: &[Block], id: SourceId) -> Option<Source>
+pub fn find_last(sources: &[SourceList], order: &[Block], id: SourceId) -> Option<SourceList>
     requires { are_places sources.now (concat order.now) ≡ true }
     ensures some { IfSome result (IsSourceAt (sources_at sources.now (concat order.now)) (length (concat order.now) - 1) id) }
     ensures none { IfNone result (IsNoSourceAt (sources_at sources.now (concat order.now)) (length (concat order.now) - 1) id) }
@@ -66,7 +66,7 @@ pub fn find_last(sources: &[Source], order: &[Block], id: SourceId) -> Option<So
 }
 
 /// Whether the first source of a block is less than another.
-fn begins_before(sources: &[Source], block: &Block, id: SourceId) -> bool
+fn begins_before(sources: &[SourceList], block: &Block, id: SourceId) -> bool
     ensures { IsTrue result → BeginsBelow sources.now block.now id }
 {
     let places = block.places();
@@ -74,7 +74,7 @@ fn begins_before(sources: &[Source], block: &Block, id: SourceId) -> bool
 }
 
 /// Whether all sources of a block are less than another.
-fn ends_before(sources: &[Source], block: &Block, id: SourceId) -> bool
+fn ends_before(sources: &[SourceList], block: &Block, id: SourceId) -> bool
     requires places { are_places sources.now block.now ≡ true }
     requires rising { are_ascending (sources_at sources.now block.now) ≡ true }
     ensures { MatchBool result (are_below sources.now id block.now ≡ true) (HasFrom sources.now block.now id) }
@@ -88,7 +88,7 @@ fn ends_before(sources: &[Source], block: &Block, id: SourceId) -> bool
 }
 
 /// A block, such that the sources of those before it are less than another.
-fn start_of_search(sources: &[Source], order: &[Block], id: SourceId) -> usize
+fn start_of_search(sources: &[SourceList], order: &[Block], id: SourceId) -> usize
     requires { are_ascending (sources_at sources.now (concat order.now)) ≡ true }
     ensures { are_below sources.now id (concat (take result order.now)) ≡ true }
 {
@@ -101,7 +101,7 @@ fn start_of_search(sources: &[Source], order: &[Block], id: SourceId) -> usize
 }
 
 /// The block in which a source has its seat.
-fn block_of(sources: &[Source], order: &[Block], id: SourceId) -> usize
+fn block_of(sources: &[SourceList], order: &[Block], id: SourceId) -> usize
     requires places { are_places sources.now (concat order.now) ≡ true }
     requires rising { are_ascending (sources_at sources.now (concat order.now)) ≡ true }
     ensures { IsBlockOf sources.now order.now id result }
@@ -117,7 +117,7 @@ fn block_of(sources: &[Source], order: &[Block], id: SourceId) -> usize
 }
 
 /// The seat of a source in the order.
-pub fn seat_of(sources: &[Source], order: &[Block], id: SourceId) -> Seat
+pub fn seat_of(sources: &[SourceList], order: &[Block], id: SourceId) -> Seat
     requires places { are_places sources.now (concat order.now) ≡ true }
     requires rising { are_ascending (sources_at sources.now (concat order.now)) ≡ true }
     ensures place { IsSourcePlace (sources_at sources.now (concat order.now)) id (index_of order.now result) }
@@ -135,7 +135,12 @@ pub fn seat_of(sources: &[Source], order: &[Block], id: SourceId) -> Seat
 
 /// The source at a place, if it has this identifier. (`order` is read by the clauses alone.)
 #[inline(always)]
-pub fn find_in_place(sources: &[Source], order: &[Block], at: u16, id: SourceId) -> Option<Source>
+pub fn find_in_place(
+    sources: &[SourceList],
+    order: &[Block],
+    at: u16,
+    id: SourceId,
+) -> Option<SourceList>
     requires places { are_places sources.now (concat order.now) ≡ true }
     requires many { length (concat order.now) ≡ length sources.now }
     requires rising { are_ascending (sources_at sources.now (concat order.now)) ≡ true }
@@ -153,7 +158,12 @@ pub fn find_in_place(sources: &[Source], order: &[Block], at: u16, id: SourceId)
 
 /// The source with this identifier, if there is one. Any guess of its place serves; a good one saves the search.
 #[inline(always)]
-pub fn find_near(sources: &[Source], order: &[Block], guess: u16, id: SourceId) -> Option<Source>
+pub fn find_near(
+    sources: &[SourceList],
+    order: &[Block],
+    guess: u16,
+    id: SourceId,
+) -> Option<SourceList>
     requires places { are_places sources.now (concat order.now) ≡ true }
     requires many { length (concat order.now) ≡ length sources.now }
     requires rising { are_ascending (sources_at sources.now (concat order.now)) ≡ true }
@@ -167,7 +177,7 @@ pub fn find_near(sources: &[Source], order: &[Block], guess: u16, id: SourceId) 
 }
 
 /// The source with this identifier, if there is one.
-fn find_by_search(sources: &[Source], order: &[Block], id: SourceId) -> Option<Source>
+fn find_by_search(sources: &[SourceList], order: &[Block], id: SourceId) -> Option<SourceList>
     requires places { are_places sources.now (concat order.now) ≡ true }
     requires rising { are_ascending (sources_at sources.now (concat order.now)) ≡ true }
     ensures some { IfSome result (λ s. IsSourceOf (sources_at sources.now (concat order.now)) s id) }

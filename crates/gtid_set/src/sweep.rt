@@ -7,7 +7,7 @@ use crate::cursor::Cursor;
 use gtid_text::{SourceId, Span};
 use std::alloc::{AllocError, Global};
 
-/// Whether a span starts by the start of another.
+/// Whether a span starts no later than another.
 #[inline(always)]
 pub fn starts_by(span: &Span, next: &Span) -> bool
     ensures { result ≡ is_from (start_of span.now) (start_of next.now) }

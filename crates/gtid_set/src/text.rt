@@ -8,7 +8,7 @@ use crate::cursor::Cursor;
 use gtid_text::{Gtid, Span, write_next_span};
 use std::alloc::{AllocError, Global};
 
-/// The text of a list of spans: a source is written where it differs from the one before.
+/// The text of a list of spans: a source is written only if it differs from the one before.
 pub fn format_spans(alloc: Global, spans: Cursor<'_>) -> Result<String, AllocError>
     ensures { IfOk result (λ t. string_bytes t ≡ spans_text spans.entry) }
 {
@@ -34,7 +34,7 @@ fn start(span: &Span) -> Gtid
     }
 }
 
-/// Sorts spans by where they start.
+/// Sorts spans by their starts.
 pub fn sort_by_start(spans: &mut Vec<Span>)
     ensures rises { is_sorted spans.new.items ≡ true }
     ensures same { IsPermutation spans.old.items spans.new.items }

@@ -31,6 +31,6 @@ abbrev pub text_behind : Option ℕ → List Span → List ℕ
 text_behind before [] = []
 text_behind before (s ∷ ss) = next_text before s ++ text_behind (Some s.source) ss
 
--- the text of a list of intervals: a source is written where it differs from the one before
+-- the text of a list of intervals: a source is written only if it differs from the one before
 abbrev pub spans_text : List Span → List ℕ
 spans_text spans = text_behind None spans

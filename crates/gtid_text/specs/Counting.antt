@@ -9,7 +9,7 @@ use Rattle.gtid_text.specs.Canonical.{next_text, text_behind, spans_text}
 abbrev pub is_behind : Span → Span → Bool
 is_behind earlier span = nat_lt earlier.source span.source || ((earlier.source == span.source) && nat_lt (earlier.hi + 1) span.lo)
 
--- the same, where there is an interval before it
+-- the same, if there is an interval before it
 abbrev pub may_follow : Option Span → Span → Bool
 may_follow None span = true
 may_follow (Some earlier) span = is_behind earlier span
@@ -32,7 +32,7 @@ abbrev pub sources_behind : Option Span → List Span → ℕ
 sources_behind before [] = 0
 sources_behind before (s ∷ ss) = counts_as before s + sources_behind (Some s) ss
 
--- how many sources intervals have, where there are some, in order, and the text is their one text
+-- how many sources intervals have, if there are some, in order, and the text is their one text
 abbrev pub count_tidy : List ℕ → List Span → Option ℕ
 count_tidy text [] = None
 count_tidy text (s ∷ ss) = if are_tidy_behind None (s ∷ ss) && bytes_eq (spans_text (s ∷ ss)) text then Some (sources_behind None (s ∷ ss)) else None
@@ -48,12 +48,12 @@ abbrev pub Strips : List ℕ → List ℕ → Option (List ℕ) → Type 0
 Strips text front None = (rest : List ℕ) → text ≡ front ++ rest → ⊥
 Strips text front (Some rest) = text ≡ front ++ rest
 
--- what follows the text of an interval, where that may come after the one before it
+-- what follows the text of an interval, if that may come after the one before it
 abbrev pub FindsNext : Option Span → Span → List ℕ → Option (List ℕ) → Type 0
 FindsNext before span text None = may_follow before span ≡ true → Strips text (next_text (source_before before) span) None
 FindsNext before span text (Some rest) = (may_follow before span ≡ true) × (text ≡ next_text (source_before before) span ++ rest)
 
--- with these intervals more, after so many sources, where they are in order and this is their one text
+-- with these further intervals, after this many sources, if they are in order and this is their one text
 abbrev pub count_more : ℕ → Option Span → List ℕ → List Span → Option ℕ
 count_more n None text [] = None
 count_more n before text ss = if are_tidy_behind before ss && bytes_eq (text_behind (source_before before) ss) text then Some (n + sources_behind before ss) else None

@@ -33,7 +33,7 @@ abbrev pub answer : {A : Type 0} → ℕ → Result A ScanFault → Result A Tex
 answer len (Ok x) = Ok x
 answer len (Err r) = Err (fault_in len r)
 
--- The view of what a function returned is this result; memory is named only where the text is not refused.
+-- The view of what a function returned is this result; memory is named only if the text is not refused.
 abbrev pub GivesText : {X Y : Type 0} → (X → Y) → Result X TextFault → ℕ → Result Y ScanFault → Type 0
 GivesText view (Ok x) len read = read ≡ Ok (view x)
 GivesText view (Err fault) len read = (fault ≡ faults.Memory × IsAccepted read) ⊎ (answer len read ≡ Err fault)
@@ -117,7 +117,7 @@ abbrev pub go_on : Option Turn → (Option SourceId → List ℕ → Result (Lis
 go_on None f = Ok []
 go_on (Some t) f = with_front (option_to_list t.0) (f t.1 t.2)
 
--- so many turns at most
+-- at most this many turns
 abbrev pub spans_at : ℕ → Option SourceId → List ℕ → Result (List Span) ScanFault
 spans_at zero inside rest = Ok []
 spans_at (suc k) inside rest = turn_at inside rest >>= λ t. go_on t (λ next left. spans_at k next left)
@@ -125,7 +125,7 @@ spans_at (suc k) inside rest = turn_at inside rest >>= λ t. go_on t (λ next le
 unfoldable pub spans_in : List ℕ → Result (List Span) ScanFault
 spans_in text = spans_at (suc (length text)) None text
 
--- The view of what a function returned is what reading gives; memory is named only where nothing is refused.
+-- The view of what a function returned is what reading gives; memory is named only if nothing is refused.
 abbrev pub FailsScan : {Y : Type 0} → ScanError → Result Y ScanFault → Type 0
 FailsScan errors.Memory read = IsAccepted read
 FailsScan (errors.Refused r) read = read ≡ Err r

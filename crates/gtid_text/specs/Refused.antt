@@ -9,7 +9,7 @@ use Rattle.gtid_text.specs.declared.scan.ScanFault.{ScanFault}
 use Rattle.gtid_text.specs.declared.fault.TextFault.{TextFault}
 use Rattle.gtid_text.specs.declared.fault.TextFault.TheVariants as faults
 
--- the bytes of which the longest run is the token, where one of that kind is due
+-- the bytes of which the longest run is the token, if one of that kind is due
 abbrev pub token_byte : Kind → ℕ → Bool
 token_byte kinds.BadUuid = is_uuid_byte
 token_byte kinds.BadNumber = is_ascii_digit

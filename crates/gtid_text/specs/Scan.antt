@@ -54,7 +54,7 @@ source_at rest = found_source (source_of (run is_uuid_byte rest)) rest (skip_whi
 abbrev pub small : ℕ → Option ℕ
 small n = if nat_lt n (2 ^ 64) then Some n else None
 
--- the number that digits parse as, where a transaction may have it
+-- the number that digits parse as, if a transaction may have it
 abbrev pub number_of : List ℕ → Option ℕ
 number_of digits =
     if nat_le 1 (digits_value 10 digits) && nat_le (digits_value 10 digits) 9223372036854775807 then Some (digits_value 10 digits)

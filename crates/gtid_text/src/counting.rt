@@ -82,7 +82,7 @@ fn strip_after(text: &[u8], source: SourceId, span: Span) -> Option<&[u8]>
     strip_span(next, span)
 }
 
-/// 1 where the source of an interval is another than that of the one before it, else 0.
+/// 1 if the source of an interval differs from that of the one before it, else 0.
 fn counts_as(before: Option<&Span>, span: &Span) -> usize
     ensures { result ≡ counts_as (option_map (λ s. s.now) before.entry) span.now }
 {
@@ -105,7 +105,7 @@ fn follow<'a>(text: &'a [u8], before: Option<&Span>, span: &Span) -> Option<&'a 
     strip_after(text, earlier.source, *span)
 }
 
-/// How many sources set text has, where its intervals are in order, merged, and it is their one text; none for any other text. It does not
+/// How many sources set text has, if its intervals are in order and merged, and it is their one text; none for any other text. It does not
 /// allocate.
 pub fn count_sources(text: &[u8]) -> Option<usize>
     ensures { result ≡ count_read text.now (spans_in text.now) }
@@ -135,7 +135,7 @@ pub fn count_sources(text: &[u8]) -> Option<usize>
     }
 }
 
-/// The count, where there were intervals and nothing follows them.
+/// The count, if there were intervals and nothing follows them.
 fn end_count(sources: usize, are_some: bool, left: &[u8]) -> Option<usize>
     ensures { result ≡ (if are_some && length left.now == 0 then Some sources else None) }
 {

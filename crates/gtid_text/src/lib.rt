@@ -10,7 +10,7 @@
 //!
 //! What a writer prints is the one text of its value, and is parsed back as it, in either case and with blanks (`laws`).
 //!
-//! `count_sources` counts the sources of set text without memory, where it is the one text of its intervals.
+//! `count_sources` counts the sources of set text without an allocation, if it is the one text of its intervals.
 //!
 //! Not proved: that parsing is linear (by the code it is one pass). The printed text of `TextFault` is neither proved nor tested.
 //!

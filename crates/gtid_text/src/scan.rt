@@ -103,7 +103,7 @@ pub fn source(rest: &[u8]) -> Result<(SourceId, &[u8]), ScanFault>
     }
 }
 
-/// A number and one digit more, where the number is below 2 ^ 64.
+/// A number with one more digit, if that is below 2 ^ 64.
 fn with_digit(number: u64, digit: u8) -> Option<u64>
     requires { is_ascii_digit digit ≡ true }
     ensures { result ≡ small (number * 10 + (digit - 48)) }
@@ -111,10 +111,10 @@ fn with_digit(number: u64, digit: u8) -> Option<u64>
     number.checked_mul(10)?.checked_add(u64::from(digit - b'0'))
 }
 
-/// So many digits are those of a number below 2^64, whichever they are.
+/// A number of this many decimal digits is below 2^64, whichever they are.
 const SAFE_DIGITS: usize = 19;
 
-/// The number that digits parse as, where it is below 2 ^ 64.
+/// The number that digits parse as, if it is below 2 ^ 64.
 fn parse_digits(digits: &[u8]) -> Option<u64>
     requires { list_all is_ascii_digit digits.now ≡ true }
     ensures { result ≡ small (digits_value 10 digits.now) }
@@ -136,7 +136,7 @@ fn parse_digits(digits: &[u8]) -> Option<u64>
     Some(number)
 }
 
-/// The number that digits parse as, where a transaction may have it.
+/// The number that digits parse as, if a transaction may have it.
 fn value(digits: &[u8]) -> Option<u64>
     requires { list_all is_ascii_digit digits.now ≡ true }
     ensures { result ≡ number_of digits.now }

@@ -190,7 +190,7 @@ fn whole_spans(alloc: Global, bytes: &[u8]) -> Result<Vec<Span>, ScanError>
     ensures { Gives (λ v. v.items) result (spans_in bytes.now) }
 {
     let mut spans = Vec::new(alloc);
-    // Once memory was refused, the rest is read for its refusal alone.
+    // Once out of memory, the rest is read only for its refusal.
     let mut lost = false;
     let mut inside = None;
     let mut rest = bytes;
@@ -271,7 +271,7 @@ fn spans_of(alloc: Global, text: &str) -> Result<Vec<Span>, TextFault>
 pub fn parse_spans(alloc: Global, text: &str) -> Result<Vec<Span>, TextFault>
     // An accepted text is a text of this value by the grammar.
     ensures found { IfOk result (λ v. ParsesAs text.now v.items) }
-    // A text of these intervals by the grammar is accepted as them, unless memory is refused.
+    // A text of these intervals by the grammar is accepted as them, unless out of memory.
     ensures only { (spans : List Span) → ParsesAs text.now spans → GivesText (λ v. v.items) result (length text.now) (Ok spans) }
     // It is refused at the first token at which no continuation parses as a set. Out of memory is answered to a set's text alone.
     ensures refused { IfErr result (λ fault. FailsText IsSetText fault text.now) }

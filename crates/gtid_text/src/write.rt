@@ -85,7 +85,7 @@ pub fn write_gtid(out: &mut String, gtid: Gtid) -> Result<(), AllocError>
     Ok(())
 }
 
-/// Appends an interval after its source: `lo` where it is one number, else `lo-hi`.
+/// Appends an interval after its source: `lo` if it is one number, else `lo-hi`.
 pub fn write_span(out: &mut String, span: Span) -> Result<(), AllocError>
     ensures ok { OnOk result (string_bytes out.new ≡ string_bytes out.old ++ span_text span) }
     ensures err { OnErr result (string_bytes out.new ≡ string_bytes out.old) }

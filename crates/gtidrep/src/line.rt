@@ -54,7 +54,7 @@ pub enum Command<'a> {
     },
     /// The version of the program is asked for.
     Version,
-    /// A bundle from standard input is applied by 1 to 64 workers, where the audit that asks for an order allows it.
+    /// A bundle from standard input is applied by 1 to 64 workers, if the audit that asks for an order allows it.
     Apply {
         way: Way,
         order: Order,

@@ -15,6 +15,5 @@ pub mod Parting
 pub mod Listing
 pub mod Standing
 pub mod Stepping
-pub mod Along
 pub mod Within
 pub mod Wayside

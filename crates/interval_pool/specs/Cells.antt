@@ -31,7 +31,7 @@ abbrev pub first_with : Option ℕ → Option ℕ → Option ℕ → Option ℕ
 first_with None next first = next
 first_with (Some i) next first = first
 
--- the chain has this after one of its cells, or else at its start, and so many cells
+-- the chain has this after one of its cells, or else at its start, and has `n` cells
 abbrev pub with_head : List Head → ℕ → Option ℕ → Option ℕ → ℕ → List Head
 with_head heads k before next n =
     slice_set heads k (record (head_at heads k) { first = first_with before next (head_at heads k).first; len = n })

@@ -46,7 +46,7 @@ Sets cells heads k before some cells' heads' =
     (xs ys : List ℕ) → AreWhole cells heads → length cells ≤ most_cells → k ≢ 0 → k < length heads → chain_of cells heads k ≡ xs ++ ys → before ≡ last_or None xs
     → length (option_to_list some) ≤ free_count cells heads → Set cells heads k xs ys some cells' heads'
 
--- intervals are in a list in place of so many after some
+-- intervals are in a list in place of some number of cells after a place
 pub record Put (cells : List Cell) (heads : List Head) (k : ℕ) (xs ys : List ℕ) (n : ℕ) (pieces : List Interval) (cells' : List Cell) (heads' : List Head) : Type 0 where
   pub keeps : KeepsOthers cells heads k cells' heads'
   pub as_many : length cells' ≡ length cells
@@ -58,7 +58,7 @@ Puts cells heads k before n pieces cells' heads' =
     (xs ys : List ℕ) → AreWhole cells heads → length cells ≤ most_cells → k ≢ 0 → k < length heads → chain_of cells heads k ≡ xs ++ ys → before ≡ last_or None xs
     → n ≤ length ys → length (list_of_pieces pieces) ≤ free_count cells heads + n → Put cells heads k xs ys n (list_of_pieces pieces) cells' heads'
 
--- the same where a cell more is made, if it is needed and none is free
+-- the same, but one more cell is made if it is needed and none is free
 pub record Replaced (cells : List Cell) (heads : List Head) (k : ℕ) (xs ys : List ℕ) (n : ℕ) (pieces : List Interval) (cells' : List Cell) (heads' : List Head) : Type 0 where
   pub keeps : KeepsOthers cells heads k cells' heads'
   pub small : length cells' ≤ most_cells
@@ -83,7 +83,7 @@ abbrev pub Pushes : List Cell → List Head → ℕ → Option ℕ → Interval 
 Pushes cells heads k last s cells' heads' =
     AreWhole cells heads → length cells < most_cells → k ≢ 0 → k < length heads → last ≡ last_or None (chain_of cells heads k) → Pushed cells heads k s cells' heads'
 
--- an interval comes after the last of a list, in a free cell where there is one
+-- an interval comes after the last of a list, in a free cell if there is one
 abbrev pub PutsLast : List Cell → List Head → ℕ → Option ℕ → Interval → List Cell → List Head → Type 0
 PutsLast cells heads k last s cells' heads' =
     AreWhole cells heads → length cells ≤ most_cells → k ≢ 0 → k < length heads → last ≡ last_or None (chain_of cells heads k) → Replaced cells heads k (chain_of cells heads k) [] 0 (s ∷ []) cells' heads'
@@ -126,7 +126,7 @@ abbrev pub Renews : List Cell → List Head → ℕ → Option ℕ → Interval 
 Renews cells heads k before s cells' =
     (xs : List ℕ) (i : ℕ) (ys : List ℕ) → AreWhole cells heads → length cells ≤ most_cells → chain_of cells heads k ≡ xs ++ i ∷ ys → before ≡ last_or None xs → Replaced cells heads k xs (i ∷ ys) 1 (s ∷ []) cells' heads
 
--- a list has the numbers that pass a test, and a cell more only where it needs one and none was free
+-- a list has the numbers that pass a test, and one more cell only if it needs one and none was free
 pub record Changed (cells : List Cell) (heads : List Head) (k : ℕ) (among : ℕ → Bool) (cells' : List Cell) (heads' : List Head) : Type 0 where
   pub keeps : KeepsOthers cells heads k cells' heads'
   pub small : length cells' ≤ most_cells

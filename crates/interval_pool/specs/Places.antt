@@ -46,7 +46,7 @@ pub record IsPlace (cells : List Cell) (heads : List Head) (k n : ℕ) (before :
   pub below : AreBelow cells n xs
   pub reaches : Reaches cells n ys
 
--- none, where a list has no cells, or a cell of it with none after it
+-- none if a list has no cells, or a cell of it with none after it
 abbrev pub IsEnd : List Cell → List Head → ℕ → Option ℕ → Type 0
 IsEnd cells heads k None = (head_at heads k).len ≡ 0
 IsEnd cells heads k (Some i) = (i < length cells) × ((cell_at cells i).owner ≡ k) × ((cell_at cells i).next ≡ None)

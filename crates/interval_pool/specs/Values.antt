@@ -17,7 +17,7 @@ pub record Held : Type 0 where
   pub cell : ℕ
   pub numbers : Interval
 
--- the cells of each list in order, and none where no list is; the free cells; how many cells there are, and for how many more there is room
+-- the cells of each list in order, and none if it is no list; the free cells; how many cells there are, and for how many more there is room
 pub record PoolValue : Type 0 where
   pub lists : List (Option (List Held))
   pub free : List ℕ
@@ -97,7 +97,7 @@ pub record Released (p : PoolValue) (l : ℕ) (q : PoolValue) : Type 0 where
   pub cells : q.cells ≡ p.cells
   pub room : q.room ≡ p.room
 
--- A list has the numbers that pass a test. A free cell is taken before a new one, and a cell only where the list has one more.
+-- A list has the numbers that pass a test. A free cell is taken before a new one, and a cell only if the list has one more.
 pub record Altered (p : PoolValue) (l : ℕ) (among : ℕ → Bool) (q : PoolValue) : Type 0 where
   pub lists : (m : ℕ) → is_list q m ≡ is_list p m
   pub others : (m : ℕ) → m ≢ l → slot_at q m ≡ slot_at p m
@@ -139,7 +139,7 @@ HasNoRoomFor p n = length p.free + p.room < n
 abbrev pub IsFull : PoolValue → Type 0
 IsFull p = most_cells ≤ length (cells_in_lists p.lists)
 
--- so many more cells would be more than there may be
+-- this many more cells would be more than there may be
 abbrev pub IsFullWith : PoolValue → ℕ → Type 0
 IsFullWith p n = most_cells < length (cells_in_lists p.lists) + n
 
@@ -153,7 +153,7 @@ pub record Copied (p : PoolValue) (q : PoolValue) : Type 0 where
   pub free : q.free ≡ p.free
   pub cells : q.cells ≡ p.cells
 
--- there is room for so many cells
+-- there is room for this many cells
 pub record Reserved (p : PoolValue) (n : ℕ) (q : PoolValue) : Type 0 where
   pub lists : q.lists ≡ p.lists
   pub free : q.free ≡ p.free

@@ -1,4 +1,4 @@
-//! Numbers are added to a list.
+//! Adding numbers to a list.
 ghost use Rattle.std.specs.Prelude.{◌≡◌, ◌↔◌, ◌≢◌, ◌<◌, ◌≤◌, List, IsTrue, OnOk, OnErr, IfErr, length, vec_capacity};
 ghost use Rattle.interval_pool.specs.Links.{most_cells};
 ghost use Rattle.interval_pool.specs.Intervals.{AreMerged, IsApart};
@@ -19,7 +19,7 @@ use crate::meet::meet;
 use crate::seek::seek;
 use crate::store::replace;
 
-/// Adds the numbers of an interval to a list. Any guess of the last cell that ends before them serves. Gives back that cell.
+/// Adds the numbers of an interval to a list; returns the last cell that ends before them. Any guess of that cell serves.
 fn add_at(
     cells: &mut Vec<Cell>,
     heads: &mut [Head],
@@ -66,7 +66,7 @@ fn touches_end(cells: &[Cell], list: u32, numbers: Interval, end: Link) -> bool
         && numbers.lo.saturating_sub(1) <= cells[at].hi
 }
 
-/// Whether numbers begin further after the last cell of a list, or it is empty.
+/// Whether numbers begin beyond the last cell of a list, not right after it, or the list is empty.
 fn is_behind(cells: &[Cell], heads: &[Head], list: u32, numbers: Interval, end: Link) -> bool
     ensures { IsTrue result → IsBehind cells.now heads.now list numbers end }
 {
@@ -81,7 +81,7 @@ fn is_behind(cells: &[Cell], heads: &[Head], list: u32, numbers: Interval, end: 
     }
 }
 
-/// Lets a cell end with this number, if that is more.
+/// Raises the end of a cell to this number, if that is greater.
 fn grow_end(cells: &mut [Cell], end: Link, hi: u64)
     ensures { cells.new ≡ with_end cells.old end hi }
 {
@@ -92,7 +92,7 @@ fn grow_end(cells: &mut [Cell], end: Link, hi: u64)
     }
 }
 
-/// Adds the numbers of an interval to a list. At the end of the list it takes a few steps.
+/// Adds the numbers of an interval to a list. It takes a few steps at the end of the list.
 pub fn add(
     cells: &mut Vec<Cell>,
     heads: &mut [Head],

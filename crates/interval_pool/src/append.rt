@@ -1,4 +1,4 @@
-//! An interval is put after all others of a list.
+//! Appending an interval to a list.
 ghost use Rattle.std.specs.Prelude.{◌≡◌, ◌↔◌, ◌≢◌, ◌<◌, ◌≤◌, ◌∷◌, ◌++◌, [], OnOk, OnErr, IfErr, length, vec_capacity};
 ghost use Rattle.std.specs.List.{AllByRecursion};
 ghost use Rattle.interval_pool.specs.Links.{most_cells};
@@ -14,7 +14,7 @@ use crate::link::Link;
 use crate::seek::last;
 use crate::store::put_last;
 
-/// Puts an interval after all others of a list. Any guess of its last cell serves. Gives back that cell.
+/// Appends an interval to a list; returns the list's last cell before that. Any guess of that cell serves.
 #[inline(always)]
 pub fn append(
     cells: &mut Vec<Cell>,

@@ -14,7 +14,7 @@ pub struct Cell {
     pub owner: u32,
 }
 
-/// Where a chain begins, and how many cells it has.
+/// The head of a chain: its first cell, how many cells it has, and whether it is a list.
 #[derive(Clone, Copy, Drop)]
 pub struct Head {
     pub first: Link,
@@ -50,7 +50,7 @@ pub fn after(cells: &[Cell], heads: &[Head], chain: usize, before: Link) -> Link
     }
 }
 
-/// Lets a cell go on with another.
+/// Links a cell to the next one of its chain.
 pub fn put_next(cells: &mut [Cell], before: Link, next: Link)
     ensures { cells.new ≡ with_next cells.old before next }
 {
@@ -61,7 +61,7 @@ pub fn put_next(cells: &mut [Cell], before: Link, next: Link)
     }
 }
 
-/// Where a chain begins, if a cell comes after one of its cells, or else at its start.
+/// A chain's first cell once `next` comes after `before`, or at its start.
 fn first_with(before: Link, next: Link, first: Link) -> Link
     ensures { result ≡ first_with before next first }
 {
@@ -71,7 +71,7 @@ fn first_with(before: Link, next: Link, first: Link) -> Link
     }
 }
 
-/// Lets a chain have a cell after one of its cells, or else at its start, and so many cells.
+/// Sets a chain's length, and its first cell to `next` unless that comes after a cell of the chain.
 pub fn put_head(heads: &mut [Head], chain: usize, before: Link, next: Link, len: u32)
     ensures { heads.new ≡ with_head heads.old chain before next len }
 {
@@ -82,7 +82,7 @@ pub fn put_head(heads: &mut [Head], chain: usize, before: Link, next: Link, len:
     }
 }
 
-/// Gives a cell an owner, and lets it go on with another.
+/// Gives a cell an owner, and links it to the next one.
 fn put_owner(cells: &mut [Cell], at: usize, owner: u32, next: Link)
     ensures { cells.new ≡ with_owner cells.old at owner next }
 {

@@ -1,4 +1,4 @@
-//! Lists begin and end.
+//! How lists begin and end.
 ghost use Rattle.std.specs.Prelude.{◌≡◌, ◌↔◌, ℕ, true, ◌<◌, ◌≤◌, IsTrue, IsFalse, IfOk, IfErr, IfSome, IfNone, OnErr, length};
 ghost use Rattle.interval_pool.specs.Cells.{head_at, with_list};
 ghost use Rattle.interval_pool.specs.Links.{most_cells};
@@ -66,7 +66,7 @@ fn push_list(heads: &mut Vec<Head>) -> Result<u32, PoolFault>
     Ok(list)
 }
 
-/// Makes a list. Any guess of a chain that is none serves.
+/// Makes a list and returns its chain. `guess` is a hint: the number of a chain that is no list, or any other number.
 pub fn claim(heads: &mut Vec<Head>, guess: u32) -> Result<u32, PoolFault>
     ensures ok { IfOk result (λ k. Claimed heads.old.items k heads.new.items) }
     ensures err { OnErr result (heads.new.items ≡ heads.old.items) }
@@ -86,7 +86,7 @@ pub fn claim(heads: &mut Vec<Head>, guess: u32) -> Result<u32, PoolFault>
     Ok(list)
 }
 
-/// Frees the cells of a list, which is one no more.
+/// Frees the cells of a list, which ends.
 pub fn drop_list(cells: &mut [Cell], heads: &mut [Head], list: u32)
     ensures { Drops cells.old heads.old list cells.new heads.new }
 {

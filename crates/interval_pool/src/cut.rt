@@ -1,4 +1,4 @@
-//! Numbers are cut out of a list.
+//! Cutting numbers out of a list.
 ghost use Rattle.std.specs.Prelude.{◌≡◌, ◌↔◌, ◌≢◌, ◌<◌, ◌≤◌, OnOk, OnErr, IfErr, length, vec_capacity};
 ghost use Rattle.interval_pool.specs.Links.{most_cells};
 ghost use Rattle.interval_pool.specs.Intervals.{AreMerged, IsSplit};
@@ -14,7 +14,7 @@ use crate::meet::meet;
 use crate::seek::seek;
 use crate::store::replace;
 
-/// Cuts the numbers of an interval out of a list. Any guess of the last cell that ends before them serves. Gives back that cell.
+/// Cuts the numbers of an interval out of a list; returns the last cell that ends before them. Any guess of that cell serves.
 pub fn cut(
     cells: &mut Vec<Cell>,
     heads: &mut [Head],

@@ -1,4 +1,4 @@
-//! Intervals are put after all others of a list.
+//! Appending intervals to a list.
 ghost use Rattle.std.specs.Prelude.{◌≡◌, ◌↔◌, ◌≢◌, ◌<◌, ◌≤◌, ◌+◌, ◌++◌, OnOk, OnErr, IfErr, length, vec_capacity};
 ghost use Rattle.interval_pool.specs.Links.{most_cells};
 ghost use Rattle.interval_pool.specs.Intervals.{AreMerged};
@@ -13,8 +13,8 @@ use crate::link::{Link, MOST_CELLS};
 use crate::seek::last;
 use crate::store::{place_run, push_run};
 
-/// Puts intervals after all others of a list, in the free cells first. Any guess of its last cell serves. Gives back
-/// that cell, none where there are no intervals.
+/// Puts intervals after all others of a list, in the free cells first. Any guess of its last cell serves. Gives back that cell, or none if
+/// there are no intervals.
 pub fn extend(
     cells: &mut Vec<Cell>,
     heads: &mut [Head],

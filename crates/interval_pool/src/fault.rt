@@ -8,7 +8,7 @@ use thiserror::Error;
 /// Why a pool was not changed. The limit is our own rule.
 #[derive(Clone, Copy, Debug, PartialEq, Eq, Error)]
 pub enum PoolFault {
-    /// Memory was refused.
+    /// Out of memory.
     #[error("out of memory")]
     Memory,
     /// The pool would have more than 4,294,967,294 intervals.

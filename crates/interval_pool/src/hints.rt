@@ -1,17 +1,17 @@
-//! Guesses of the place of a number in a list. Each is tested where it is used, so a wrong one costs time alone.
+//! Guesses of the place of a number in a list. Each is tested when it is used, so a wrong one only costs time.
 use crate::cells::{Cell, Head, after, cell_at, count};
 use crate::interval::Interval;
 use crate::link::Link;
 use std::alloc::{AllocError, Global};
 use std::collections::BTreeMap;
 
-/// A list of no more cells is walked from its first.
+/// A list of at most this many cells is walked from its first.
 const SHORT: u32 = 32;
 
 /// How many cells a place may lie after one that is guessed.
 const NEAR: u32 = 2;
 
-/// What is remembered of a list, with whether its cells lie one after another, and whether they are in the index.
+/// What is remembered of a list: whether its cells are contiguous, whether they are in the index, and where it was changed last.
 #[derive(Clone, Copy, Drop)]
 struct ListHints {
     // the place of the last change, and the cell after it
@@ -73,7 +73,7 @@ fn is_near(cells: &[Cell], heads: &[Head], list: u32, number: u64, place: Link) 
     false
 }
 
-/// The last cell that ends below a number, of a list whose cells lie one after another.
+/// The last cell that ends below a number, of a list whose cells are contiguous.
 fn search_run(cells: &[Cell], heads: &[Head], list: u32, number: u64) -> Link {
     let Some(first) = after(cells, heads, list as usize, Link::none()).place() else {
         return Link::none();
@@ -94,7 +94,7 @@ fn is_beside(cell: Cell, numbers: Interval) -> bool {
     cell.hi.saturating_add(1) == numbers.lo || numbers.hi.saturating_add(1) == cell.lo
 }
 
-/// The last cell of a list whose cells lie one after another.
+/// The last cell of a list whose cells are contiguous.
 fn end_of_run(cells: &[Cell], heads: &[Head], list: u32) -> Link {
     let first = after(cells, heads, list as usize, Link::none());
     first.last_of(count(heads, list as usize))
@@ -109,7 +109,7 @@ fn is_end(cells: &[Cell], list: u32, place: Link) -> bool {
     cell.owner == list && cell.next.is_none()
 }
 
-/// Whether cells after a place still lie one after another, where few have changed.
+/// Whether the cells after a place are still contiguous after a small change.
 fn is_still_run(cells: &[Cell], heads: &[Head], list: u32, place: Link) -> bool {
     let mut last = place;
     for _step in 0..NEAR + 1 {
@@ -134,7 +134,7 @@ fn last_key(index: &Index, upto: u64) -> Option<u64> {
     }
 }
 
-/// Takes the cells that begin in this interval, at most so many, out of an index.
+/// Takes the cells that begin in this interval, at most `most` of them, out of an index.
 fn forget_between(index: &mut Index, from: u64, upto: u64, most: u32) {
     let numbers = upto.saturating_add(1).saturating_sub(from);
     for _cell in 0..numbers.min(most as u64) {
@@ -176,7 +176,7 @@ impl Hints {
         }
     }
 
-    /// Puts what is to be remembered of a list, if there is a place for it.
+    /// Stores what is to be remembered of a list, if there is a place for it.
     fn put(&mut self, list: u32, hints: ListHints) {
         let at = list as usize;
         if at < self.lists.as_slice().len() {
@@ -184,7 +184,7 @@ impl Hints {
         }
     }
 
-    /// The same, and makes a place, if there is memory.
+    /// The same, and makes a place first if there is memory.
     fn keep(&mut self, list: u32, hints: ListHints) {
         let missing = (list as usize + 1).saturating_sub(self.lists.as_slice().len());
         for _list in 0..missing {
@@ -246,12 +246,12 @@ impl Hints {
         self.place(cells, heads, list, number)
     }
 
-    /// Whether the cells of a list lie one after another.
+    /// Whether the cells of a list are contiguous.
     pub fn is_run(&self, list: u32) -> bool {
         self.of(list).is_run
     }
 
-    /// The last cell of a list, where it is known at once.
+    /// The last cell of a list, if it is known at once.
     pub fn last_known(&self, cells: &[Cell], heads: &[Head], list: u32, is_run: bool) -> Link {
         if is_run {
             end_of_run(cells, heads, list)
@@ -312,7 +312,7 @@ impl Hints {
         }
     }
 
-    /// Takes the cells of a list that begin in this interval, at most so many, out of the index.
+    /// Takes the cells of a list that begin in this interval, at most `most` of them, out of the index.
     fn forget(&mut self, list: u32, from: u64, upto: u64, most: u32) {
         let place = list as usize;
         if place < self.indexes.as_slice().len() {
@@ -332,7 +332,7 @@ impl Hints {
         }
     }
 
-    /// Whether the index has to follow a change after a place: not where the cells lie one after another, and not where it is made anew.
+    /// Whether the index has to follow a change after a place: not if the list's cells are contiguous, and not if the index is made anew.
     fn keeps_index(&mut self, cells: &[Cell], heads: &[Head], list: u32, place: Link) -> bool {
         let hints = self.of(list);
         let is_one = count(heads, list as usize) <= 1;
@@ -362,7 +362,7 @@ impl Hints {
         was_indexed
     }
 
-    /// Numbers were added after a place, where the list had so many cells before.
+    /// Numbers were added after a place of a list that had `many` cells before.
     pub fn note_added(
         &mut self,
         cells: &[Cell],
@@ -394,7 +394,7 @@ impl Hints {
         }
     }
 
-    /// An interval was put after the last cell of a list. A run whose last cells are the last of all goes on.
+    /// An interval was appended to a list. A contiguous list stays so if its last cells are the last of all.
     pub fn note_appended(
         &mut self,
         cells: &[Cell],
@@ -410,7 +410,7 @@ impl Hints {
         }
     }
 
-    /// So many intervals were put after the last cell of a list. A run goes on where new cells alone came, the last of all.
+    /// `many` intervals were appended after `place`. A contiguous list stays so if they are in new cells alone, the last of all cells.
     #[inline(always)]
     pub fn note_extended(
         &mut self,
@@ -427,7 +427,7 @@ impl Hints {
         }
     }
 
-    /// So many intervals were put after a place, and the cells of the list lie no more one after another.
+    /// `many` intervals were inserted after `place`; the list's cells are no longer contiguous.
     fn note_scattered(
         &mut self,
         cells: &[Cell],

@@ -3,13 +3,13 @@ ghost use Rattle.std.specs.Prelude.{◌+◌, ◌<◌, ◌≤◌, ℕ, List, leng
 ghost use Rattle.interval_pool.specs.Chains.{AreOnce};
 ghost use Rattle.interval_pool.specs.Values.{PoolValue, HasNoRoom, AreSteps, last_of, AreAmong, cells_in_lists, intervals_of};
 
-/// Where room for so many cells was reserved, none of as many calls of `add` and `cut` after it fails.
+/// After room for some number of cells was reserved, none of as many calls of `add` and `cut` fails.
 pub fn reserved_lasts()
     ensures { (p : PoolValue) (n : ℕ) (steps : List PoolValue) → n ≤ length p.free + p.room → AreSteps p steps → length steps < n → HasNoRoom (last_of p steps) → ⊥ }
 {}
 
-/// The cells that are in lists are no more than the intervals of lists among which all are. So a pool that is full
-/// has that many intervals in the lists that its caller knows.
+/// The cells in lists are no more than the intervals of any lists that include all lists of the pool. So a full pool has that many
+/// intervals in the lists that its caller knows.
 pub fn cells_are_within_lists()
     ensures { (p : PoolValue) (lists : List ℕ) → AreAmong p lists → length (cells_in_lists p.lists) ≤ intervals_of p lists }
 {}

@@ -38,7 +38,7 @@ impl Link {
         Link { code: 0 }
     }
 
-    /// A place, if it is none of the last.
+    /// A link to the cell at this place, if that is below `u32::MAX`.
     pub fn to(place: usize) -> Link
         ensures { place ≤ most_cells → result ≡ Some place }
     {
@@ -89,7 +89,7 @@ impl Link {
         self.code as usize == at
     }
 
-    /// The last of so many places that begin with this one.
+    /// The last of `count` places in a row, of which this is the first.
     pub fn last_of(self, count: u32) -> Link {
         Link {
             code: self.code.wrapping_add(count).saturating_sub(1),

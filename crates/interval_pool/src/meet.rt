@@ -7,14 +7,14 @@ use crate::cells::{Cell, Head, after, cell_at, count};
 use crate::interval::{Interval, Joined, hull};
 use crate::link::Link;
 
-/// Whether a number is further after another than so many numbers.
+/// Whether `number` exceeds `hi` by more than `reach`.
 fn is_beyond(number: u64, hi: u64, reach: u64) -> bool
     ensures { result ≡ nat_lt (hi + reach) number }
 {
     number > hi && number - hi > reach
 }
 
-/// An interval joined with the cells of a list after one of them, as long as the next begins within so many numbers after it.
+/// An interval joined with the cells of a list after `before`, as long as the next cell begins at most `reach` numbers after it.
 pub fn meet(
     cells: &[Cell],
     heads: &[Head],

@@ -58,7 +58,7 @@ pub struct Pool {
 }
 
 impl Drop for Pool {
-    // (by hand: for a caller the end of a Pool is one call)
+    // (by hand: for a caller dropping a Pool is one call)
     fn drop(self) {
         let Pool {
             cells: _cells,
@@ -82,7 +82,7 @@ impl Model for Pool {
 }
 
 impl Pool {
-    /// No lists and no cells. Does not allocate.
+    /// A pool without lists and cells. It does not allocate.
     pub fn open(alloc: Global) -> Pool
         ensures { result ≡ empty }
     {
@@ -93,9 +93,8 @@ impl Pool {
         }
     }
 
-    /// Adds numbers to a list. It fails only where they touch no interval of the list, no cell is free and memory
-    /// for one more is refused (`Memory`), or 4,294,967,294 intervals are in the pool (`Full`). An error leaves all
-    /// as it was.
+    /// Adds numbers to a list. It fails only if they touch no interval of the list, no cell is free, and there is no memory for one more
+    /// (`Memory`) or 4,294,967,294 intervals are in the pool (`Full`). An error changes nothing.
     pub fn add(&mut self, list: ListId, numbers: Interval) -> Result<(), PoolFault>
         requires list { IsList self.old list }
         requires range { IsRange numbers }
@@ -115,10 +114,9 @@ impl Pool {
         Ok(())
     }
 
-    /// Puts an interval after all others of a list. It costs a few steps, however many there are, and is for lists that
-    /// are written in order; after `reserve` their cells come to lie one after another. It fails only where no cell is
-    /// free and memory for one more is refused (`Memory`), or 4,294,967,294 intervals are in the pool (`Full`). An
-    /// error leaves all as it was.
+    /// Appends an interval to a list. It costs a few steps, however many there are, and is for lists that are written in order; after
+    /// `reserve` their cells come to lie one after another. It fails only if no cell is free, and there is no memory for one more
+    /// (`Memory`) or 4,294,967,294 intervals are in the pool (`Full`). An error changes nothing.
     pub fn append(&mut self, list: ListId, numbers: Interval) -> Result<(), PoolFault>
         requires list { IsList self.old list }
         requires range { IsRange numbers }
@@ -137,10 +135,9 @@ impl Pool {
         Ok(())
     }
 
-    /// Puts intervals after all others of a list, which costs a few steps for each, fewest where no cell is free. It
-    /// fails only where they are more than the free cells and those for which there is room, and memory for more is
-    /// refused (`Memory`), or so many intervals with those that are in the pool are more than 4,294,967,294 (`Full`).
-    /// An error leaves all as it was.
+    /// Appends intervals to a list, at a cost of a few steps each, fewest if no cell is free. It fails only if they are more than the free
+    /// cells and those for which there is room, and there is no memory for more (`Memory`), or if they and the intervals in the pool are
+    /// together more than 4,294,967,294 (`Full`). An error changes nothing.
     pub fn extend(&mut self, list: ListId, intervals: &[Interval]) -> Result<(), PoolFault>
         requires list { IsList self.old list }
         requires merged { AreMerged (spans self.old list ++ intervals.now) }
@@ -166,9 +163,8 @@ impl Pool {
         Ok(())
     }
 
-    /// Cuts numbers out of a list. It fails only where they lie within an interval that goes on at both ends, no cell
-    /// is free and memory for one more is refused (`Memory`), or 4,294,967,294 intervals are in the pool (`Full`).
-    /// An error leaves all as it was.
+    /// Cuts numbers out of a list. It fails only if they lie within an interval that goes on at both ends, no cell is free, and there is no
+    /// memory for one more (`Memory`) or 4,294,967,294 intervals are in the pool (`Full`). An error changes nothing.
     pub fn cut(&mut self, list: ListId, numbers: Interval) -> Result<(), PoolFault>
         requires list { IsList self.old list }
         requires range { IsRange numbers }
@@ -188,8 +184,7 @@ impl Pool {
         Ok(())
     }
 
-    /// The same pool again: the same lists, with the same cells, and the same free cells. It fails where memory is
-    /// refused (`Memory`).
+    /// A copy of the pool: the same lists, with the same cells, and the same free cells. It fails if out of memory (`Memory`).
     pub fn copy(&self, alloc: Global) -> Result<Pool, PoolFault>
         ensures ok { IfOk result (λ pool. Copied self.now pool) }
         ensures memory { IfErr result (λ fault. fault ≡ Memory) }
@@ -204,8 +199,7 @@ impl Pool {
         })
     }
 
-    /// Makes an empty list. It fails where memory is refused (`Memory`), or 4,294,967,294 lists are there (`Full`). An
-    /// error leaves all as it was.
+    /// Makes an empty list. It fails if out of memory (`Memory`), or if there are 4,294,967,294 lists (`Full`). An error changes nothing.
     pub fn new_list(&mut self) -> Result<ListId, PoolFault>
         ensures ok { IfOk result (λ list. Opened self.old list self.new) }
         ensures err { OnErr result (self.new ≡ self.old) }
@@ -216,7 +210,7 @@ impl Pool {
         Ok(ListId { number })
     }
 
-    /// Frees the cells of a list, which is one no more. Does not allocate.
+    /// Ends a list and frees its cells. It does not allocate.
     pub fn release(&mut self, list: ListId)
         requires list { IsList self.old list }
         ensures { Released self.old list self.new }
@@ -261,7 +255,7 @@ impl Pool {
         count(&self.heads, list.number() as usize)
     }
 
-    /// The first cell of a list, none where it is empty.
+    /// The first cell of a list, or none if it is empty.
     pub fn first(&self, list: ListId) -> Option<u32>
         requires list { IsList self.now list }
         ensures { result ≡ first_cell (cells_of self.now list) }
@@ -285,14 +279,14 @@ impl Pool {
         walk_from(&self.cells, first)
     }
 
-    /// The cell that comes after this one in its list, none after the last. No clause speaks of what is no cell of a list.
+    /// The cell after this one in its list, none after the last. No clause tells what comes of a cell in no list.
     pub fn next(&self, cell: u32) -> Option<u32>
         ensures { Follows self.now cell result }
     {
         cell_at(&self.cells, cell as usize).next.number()
     }
 
-    /// The interval of a cell. No clause speaks of what is no cell of a list.
+    /// The interval of a cell. No clause tells what comes of a cell in no list.
     pub fn span(&self, cell: u32) -> Interval
         ensures { Covers self.now cell result }
     {
@@ -310,9 +304,9 @@ impl Pool {
         count(&self.heads, 0)
     }
 
-    /// Makes room for so many cells, so that as many calls of `add` and `cut` succeed after it (`reserved_lasts`). The
-    /// free cells stay as they are. It fails where memory is refused (`Memory`), or so many cells with those that
-    /// are in lists are more than 4,294,967,294 (`Full`). An error leaves all as it was.
+    /// Makes room for `more` cells, so that `more` calls of `add` and `cut` succeed after it (`reserved_lasts`). The free cells stay as
+    /// they are. It fails if out of memory (`Memory`), or if `more` and the cells in lists are together more than 4,294,967,294 (`Full`).
+    /// An error changes nothing.
     pub fn reserve(&mut self, more: usize) -> Result<(), PoolFault>
         ensures ok { OnOk result (Reserved self.old more self.new) }
         ensures err { OnErr result (self.new ≡ self.old) }

@@ -11,7 +11,7 @@ use crate::cells::{Cell, Head, after, cell_at, count};
 use crate::interval::Interval;
 use crate::link::Link;
 
-/// A guess, where it is a cell of a list that ends below a number.
+/// The guess, if it is a cell of the list that ends below a number.
 fn start(cells: &[Cell], list: u32, number: u64, guess: Link) -> Link
     ensures { IsStart cells.now list number result }
 {

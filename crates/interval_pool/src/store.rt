@@ -34,7 +34,7 @@ pub fn free(cells: &mut [Cell], heads: &mut [Head], list: u32, before: Link)
     }
 }
 
-/// Frees so many cells after one of a list, or the list's first.
+/// Frees `count` cells of a list: those after `before`, or the list's first.
 pub fn free_some(cells: &mut [Cell], heads: &mut [Head], list: u32, before: Link, count: u32)
     ensures { FreesSome cells.old heads.old list before count cells.new heads.new }
 {
@@ -43,7 +43,7 @@ pub fn free_some(cells: &mut [Cell], heads: &mut [Head], list: u32, before: Link
     }
 }
 
-/// Makes a free cell more.
+/// Makes one more free cell.
 pub fn grow(cells: &mut Vec<Cell>, heads: &mut [Head]) -> Result<(), AllocError>
     ensures ok { OnOk result (Grows cells.old.items heads.old cells.new.items heads.new) }
     ensures cells { OnErr result (cells.new.items ≡ cells.old.items) }
@@ -106,7 +106,7 @@ fn link_last(cells: &mut [Cell], heads: &mut [Head], list: u32, last: Link, next
     }
 }
 
-/// Puts a cell more after the last of a list, with these numbers.
+/// Appends a cell with these numbers to a list whose last cell is `last`.
 #[inline(always)]
 fn push(
     cells: &mut Vec<Cell>,
@@ -166,7 +166,7 @@ pub fn put_last(
     Ok(())
 }
 
-/// Puts intervals after the last cell of a list, in free cells. Gives back the last cell of then.
+/// Puts intervals after the last cell of a list, in free cells. Gives back the new last cell.
 pub fn place_run(
     cells: &mut [Cell],
     heads: &mut [Head],
@@ -246,7 +246,7 @@ pub fn push_run(
     push_cells(cells, list, intervals);
 }
 
-/// Puts an interval into a list after one of its cells, or at its start, if there is one to be put.
+/// Puts an interval, if there is one, into a list after `before`, or at its start.
 fn set(cells: &mut [Cell], heads: &mut [Head], list: u32, before: Link, numbers: Option<Interval>)
     ensures { Sets cells.old heads.old list before numbers cells.new heads.new }
 {
@@ -255,7 +255,7 @@ fn set(cells: &mut [Cell], heads: &mut [Head], list: u32, before: Link, numbers:
     }
 }
 
-/// Makes a free cell, where the free ones and those that will be freed are fewer than needed.
+/// Makes a free cell if the free ones and those that will be freed are too few.
 fn make_room(
     cells: &mut Vec<Cell>,
     heads: &mut [Head],
@@ -281,7 +281,7 @@ fn make_room(
     Ok(())
 }
 
-/// Puts intervals into a list in place of so many cells after one of its cells, or at its start.
+/// Puts intervals into a list in place of the `count` cells after `before`, or at the list's start.
 fn put(cells: &mut [Cell], heads: &mut [Head], list: u32, before: Link, count: u32, pieces: Pieces)
     ensures { Puts cells.old heads.old list before count pieces cells.new heads.new }
 {
@@ -299,7 +299,7 @@ fn renew(cells: &mut [Cell], heads: &[Head], list: u32, before: Link, numbers: I
     }
 }
 
-/// Puts intervals, one more at most, into a list in place of so many cells after one of its cells, or at its start.
+/// Puts intervals, at most one more than `count`, into a list in place of the `count` cells after `before`, or at the list's start.
 pub fn replace(
     cells: &mut Vec<Cell>,
     heads: &mut [Head],

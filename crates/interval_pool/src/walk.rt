@@ -1,4 +1,4 @@
-//! A way along the cells of a list.
+//! A walk along the cells of a list.
 ghost use Rattle.std.specs.Prelude.{◌≡◌, ◌∷◌, [], drop, MatchOption};
 ghost use Rattle.interval_pool.specs.Walks.{IsWalk, IsWay, intervals_from, place_in};
 
@@ -87,7 +87,7 @@ impl<'a> Walk<'a> {
         }
     }
 
-    /// Goes after the first interval, if there is one. Where the next cell is at the next place, no link is followed.
+    /// Moves past the first interval, if there is one. No link is followed if the next cell is at the next place.
     #[inline(always)]
     pub fn advance(&mut self)
         ensures { self.new ≡ drop 1 self.old }

@@ -14,7 +14,8 @@ use Rattle.journal.specs.Writing.{is_number, is_txn_writable, is_writable}
 use Rattle.journal.specs.Journals.{gtids_of, AreNew, IsJournal}
 use Rattle.std.proofs.lemmas.Bool.{and_parts}
 use Rattle.std.proofs.lemmas.Bool.Decides.{nat_tests}
-use Rattle.gtid_text.proofs.SameGtid.{gtid_total, same_is_equal}
+use Rattle.lemmas.proofs.SameGtid.{gtid_total, same_is_equal}
+use Rattle.lemmas.proofs.Tests.{or_turn as swapped}
 use Rattle.gtid_set.proofs.SpanLemmas.{all_push}
 
 map_push : (es : List Entry) (e : Entry) → map (λ (e : Entry). e.gtid) (es ++ e ∷ []) ≡ map (λ (e : Entry). e.gtid) es ++ e.gtid ∷ []
@@ -24,11 +25,6 @@ map_push (x ∷ es) e = ap (λ gs. x.gtid ∷ gs) (map_push es e)
 -- one entry more at the end
 pub gtids_of-push : (es : List Entry) (e : Entry) → gtids_of (es ++ e ∷ []) ≡ set.insert (gtids_of es) e.gtid
 gtids_of-push es e = ap set.from_list (map_push es e) ∙ set_push (map (λ (e : Entry). e.gtid) es) e.gtid
-
-swapped : (a b c : Bool) → ((a || b) || c) ≡ (b || (a || c))
-swapped true true c = refl
-swapped true false c = refl
-swapped false b c = refl
 
 -- the first entry belongs to the set that was seen before the others
 pub union-gtids_of-cons : (seen : Gtids) (e : Entry) (es : List Entry) → set.union (set.insert seen e.gtid) (gtids_of es) ≡ set.union seen (gtids_of (e ∷ es))

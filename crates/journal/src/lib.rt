@@ -8,10 +8,10 @@
 //! to 2^63 - 1, it has at most 65,536 changes, images of 1 to 64 values, and values of at most 65,535 bytes. The numbers of the previous
 //! set are 1 to 2^63 - 1 too.
 //!
-//! The contract of each call is one equation. `previous_after_purge` and the like fail where memory is refused, or where a set that is made
-//! on the way is full (`fault`).
+//! The contract of each call is one equation. `previous_after_purge` and the like fail if out of memory, or if a set that is made on the
+//! way is full (`fault`).
 //!
-//! Cost: `contains` looks at each entry. Readers and the own journal of a replica keep a set beside the journal instead.
+//! Cost: `contains` looks at each entry. Readers and the own journal of a replica keep a set with the journal instead.
 #![tactic(auto)]
 
 ghost use Rattle.std.specs.Prelude.{◌≡◌, ◌-◌, [], ◌∷◌, ◌++◌, true, false, OnOk, OnErr, IfOk, IfErr, length, take, drop, ◌==◌, ◌≤◌};
@@ -196,7 +196,7 @@ impl Journal {
         }
     }
 
-    /// Puts an entry at the end.
+    /// Appends an entry.
     pub fn push(&mut self, entry: Entry) -> Result<(), AllocError>
         requires new { set.contains (whole self.old) entry.gtid ≡ false }
         requires writable { is_writable entry ≡ true }
@@ -207,14 +207,14 @@ impl Journal {
         Ok(())
     }
 
-    /// Whether a GTID is in the previous set or that of an entry, by looking at each entry.
+    /// Whether a GTID is in the previous set or is that of an entry. It looks at each entry.
     pub fn contains(&self, gtid: &Gtid) -> bool
         ensures { result ≡ set.contains (whole self.now) gtid.now }
     {
         self.previous.contains(gtid) || any_has(&self.entries, gtid)
     }
 
-    /// Takes the last entry away, if there is one.
+    /// Removes the last entry, if there is one.
     pub fn pop(&mut self)
         ensures { self.new ≡ record self.old { entries = take (length self.old.entries - 1) self.old.entries } }
     {
@@ -222,8 +222,8 @@ impl Journal {
         self.entries.truncate(kept);
     }
 
-    /// The previous set once the first entries are purged. The GTIDs are added one after another: the set is also too large where it has
-    /// too many intervals once some of them are added.
+    /// The previous set after a purge of the first `count` entries. The GTIDs are added one by one: the set is also too large if it has too
+    /// many intervals after some of them.
     pub fn previous_after_purge(&self, alloc: Global, count: usize) -> Result<GtidSet, SetFault>
         requires { count ≤ length self.now.entries }
         ensures ok { IfOk result (λ s. s ≡ previous_after_purge count self.now) }
@@ -234,7 +234,7 @@ impl Journal {
         Ok(previous)
     }
 
-    /// Takes the first entries away, and their GTIDs into the previous set.
+    /// Removes the first entries, whose GTIDs move into the previous set.
     pub fn purge(&mut self, count: usize, previous: GtidSet)
         requires count { count ≤ length self.old.entries }
         requires previous { previous ≡ previous_after_purge count self.old }

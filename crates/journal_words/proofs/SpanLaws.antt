@@ -7,6 +7,7 @@ use Rattle.std.specs.FinSet as set
 use Rattle.std.proofs.lemmas.Bool.{and_parts, and_from}
 use Rattle.std.proofs.lemmas.List.{take_more, take-append-drop, length-take}
 use Rattle.std.proofs.lemmas.Option.{same_Some}
+use Rattle.lemmas.proofs.SameGtid.{gtid_total}
 use Rattle.gtid_text.specs.declared.Span.{Span}
 use Rattle.gtid_text.specs.declared.scan.ScanFault.{ScanFault}
 use Rattle.gtid_text.specs.Canonical.{spans_text}
@@ -14,7 +15,6 @@ use Rattle.gtid_text.specs.Counting.{are_tidy_behind}
 use Rattle.gtid_text.specs.Reading.{spans_in}
 use Rattle.gtid_text.proofs.Found.{read_spells}
 use Rattle.gtid_text.proofs.Turns.{chosen}
-use Rattle.gtid_text.proofs.SameGtid.{gtid_total}
 use Rattle.gtid_set.specs.declared.fault.SetFault.{SetFault}
 use Rattle.gtid_set.specs.Sets.{Gtids, interval, source_count}
 use Rattle.gtid_set.specs.Spans.{set_of, is_before, is_merged}

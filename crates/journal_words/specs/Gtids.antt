@@ -17,7 +17,7 @@ use Rattle.row_images.specs.Values.{where_same}
 abbrev pub is_ascii_byte : ℕ → Bool
 is_ascii_byte b = nat_lt b 128
 
--- what was read, where its one text is the word
+-- what was read, if the word is its one text
 abbrev pub same_or_none : {A : Type 0} → (A → List ℕ) → List ℕ → Result A ScanFault → Option A
 same_or_none text word (Ok x) = where_same text word x
 same_or_none text word (Err r) = None
@@ -62,6 +62,6 @@ abbrev pub OfParsed : (Gtids → Type 0) → Option Gtids → Type 0
 OfParsed Has (Some s) = Has s
 OfParsed Has None = ⊥
 
--- why a set that a word parses as was not made: memory was refused, or the set has too many sources or intervals
+-- why a set that a word parses as was not made: out of memory, or the set has too many sources or intervals
 abbrev pub IsWordFault : SetFault → Option Gtids → Type 0
 IsWordFault f parsed = IsMemoryOr (OfParsed HasManySources parsed) (OfParsed HasManyIntervals parsed) f

@@ -26,7 +26,7 @@ fn is_ascii(word: &[u8]) -> bool
     word.iter().all(|b| *b < 128)
 }
 
-/// The word as text, where it is ASCII.
+/// The word as text, if it is ASCII.
 fn ascii_text(word: &[u8]) -> Option<&str>
     ensures found { IfSome result (λ text. text.now ≡ word.now) }
     ensures ascii { IfSome result (λ text. list_all is_ascii_byte word.now ≡ true) }
@@ -41,7 +41,7 @@ fn ascii_text(word: &[u8]) -> Option<&str>
     }
 }
 
-/// The source, where its one spelling is the word.
+/// The source, if the word is its one spelling.
 fn as_source(alloc: Global, word: &[u8], source: SourceId) -> Result<Option<SourceId>, AllocError>
     ensures { IfOk result (λ found. found ≡ where_same source_text word.now source) }
 {
@@ -54,7 +54,7 @@ fn as_source(alloc: Global, word: &[u8], source: SourceId) -> Result<Option<Sour
     }
 }
 
-/// The GTID, where its one spelling is the word.
+/// The GTID, if the word is its one spelling.
 fn as_gtid(alloc: Global, word: &[u8], gtid: Gtid) -> Result<Option<Gtid>, AllocError>
     ensures { IfOk result (λ found. found ≡ where_same gtid_text word.now gtid) }
 {
@@ -130,7 +130,7 @@ fn is_text_of(alloc: Global, spans: &[Span], word: &[u8]) -> Result<bool, AllocE
     Ok(text.as_bytes() == word)
 }
 
-/// The spans, where they are in order, merged, and their one text is the word.
+/// The spans, if they are in order and merged, and the word is their one text.
 fn as_spans(alloc: Global, word: &[u8], spans: Vec<Span>) -> Result<Option<Vec<Span>>, AllocError>
     ensures { IfOk result (λ found. option_map (λ v. v.items) found ≡ some_tidy word.now spans.items) }
 {
@@ -199,7 +199,7 @@ fn has_many_sources(word: &[u8]) -> bool
     }
 }
 
-/// The set that the word parses as, in passes over it. A fault is the first that was met.
+/// The set that the word parses as, in passes over it. A fault is the first one met.
 #[cold]
 #[inline(never)]
 fn parse_in_passes(alloc: Global, word: &[u8]) -> Result<Option<GtidSet>, SetFault>
@@ -212,7 +212,7 @@ fn parse_in_passes(alloc: Global, word: &[u8]) -> Result<Option<GtidSet>, SetFau
     }
 }
 
-/// The set that the word parses as. A fault is the first that was met.
+/// The set that the word parses as. A fault is the first one met.
 fn parse_set(alloc: Global, word: &[u8]) -> Result<Option<GtidSet>, SetFault>
     ensures found { IfOk result (λ found. found ≡ set_of_word word.now) }
     ensures fault { IfErr result (λ f. IsWordFault f (set_of_word word.now)) }

@@ -1,7 +1,7 @@
 //! Sets as words, read in one pass.
 //!
-//! The way of most words. It gives up at a number above 9,223,372,036,854,775,799, where memory is refused or the set is full, and at all
-//! that is no set: then `gtids` reads the word in passes, with the exact fault.
+//! Most words are read so. The pass gives up at a number above 9,223,372,036,854,775,799, if out of memory, if the set is full, and at
+//! anything that is no set: then `gtids` reads the word in several passes, with the exact fault.
 ghost use Rattle.std.specs.Prelude.{◌≡◌, ◌<◌, ◌^◌, IsTrue, IfSome, Some, None, List, ℕ};
 ghost use Rattle.gtid_text.specs.Written.{IsUsableSpan};
 ghost use Rattle.journal_words.specs.Gtids.{set_of_word};
@@ -15,7 +15,7 @@ use std::alloc::Global;
 /// The bytes of a source's text.
 const SOURCE_BYTES: usize = 36;
 
-/// A number up to this one may have another digit, whichever it is.
+/// Any digit may follow the digits of a number up to this one.
 const MOST_BEFORE_DIGIT: u64 = 922_337_203_685_477_579;
 
 /// The number at the start of a text, and what follows it.
@@ -129,7 +129,7 @@ fn read_next<'a>(alloc: Global, last: &Span, text: &'a [u8]) -> Option<(Span, &'
     Some((Span { source, lo, hi }, rest))
 }
 
-/// Adds an interval, and those in the text after it, and answers whether that was all. Else some of them may be in the set.
+/// Adds an interval and those in the text after it; returns whether that was all. Else some of them may be in the set.
 fn add_all(alloc: Global, set: &mut GtidSet, first: Span, text: &[u8]) -> bool
     requires { IsUsableSpan first }
     ensures { IsTrue result → (word : List ℕ) → Promises word set.old first text.now → set_of_word word ≡ Some set.new }
@@ -152,7 +152,7 @@ fn add_all(alloc: Global, set: &mut GtidSet, first: Span, text: &[u8]) -> bool
     true
 }
 
-/// The set that a word parses as, where one pass is enough to tell.
+/// The set that a word parses as, if one pass is enough to tell.
 pub fn set_in_one_pass(alloc: Global, word: &[u8]) -> Option<GtidSet>
     ensures { IfSome result (λ s. set_of_word word.now ≡ Some s) }
 {

@@ -5,11 +5,10 @@ use Rattle.std.specs.Cmp.{IsEquivalence}
 use Rattle.std.specs.List.{IsDistinct, position_or_len}
 use Rattle.std.specs.Map.{keys_of, values_of, lookup}
 use Rattle.std_collections.proofs.Entries.{keys_set_value_at, length-set_value_at}
-use Rattle.std_collections.proofs.HashLookup.{Updated, Updated-set, Updated-push, distinct_push}
+use Rattle.std_collections.proofs.HashLookup.{Updated, Updated-set, Updated-push, distinct_push, get_value}
 use Rattle.std.specs.Option.{option_map}
 use Rattle.std.proofs.lemmas.List.{get_or_push, length_push}
 use Rattle.std.proofs.lemmas.Option.{slice_get-get_or}
-use Rattle.std_collections.proofs.HashLookup.{get_value}
 use Rattle.indexmap.proofs.MapLemmas.{some_index, Found, Found-position, Missing, Missing-position, insert_entry-first, insert_entry-absent}
 use Rattle.indexmap.specs.IndexMap.{insert_entry, set_value_at}
 

@@ -18,7 +18,7 @@ past = record { hash = 0; place = 4294967296 }
 abbrev pub slot_at : List Slot → ℕ → Slot
 slot_at slots at = get_or slots at past
 
--- the first of so many slots that is looked at for a hash
+-- the first of the slots that are searched for a hash
 abbrev pub home : ℕ → ℕ → ℕ
 home count hash = hash * count % 18446744073709551616 / 4294967296
 
@@ -28,17 +28,17 @@ is_taken slot = not (slot.place == no_place)
 abbrev pub notes : ℕ → ℕ → Slot → Bool
 notes hash place slot = slot.hash == hash && slot.place == place
 
--- whether one of so many slots from here on notes a place for a hash, and none before it is empty
+-- whether one of this many slots from here on notes a place for a hash, and none before it is empty
 abbrev pub is_noted : List Slot → ℕ → ℕ → ℕ → ℕ → Bool
 is_noted slots at zero hash place = false
 is_noted slots at (suc n) hash place = notes hash place (slot_at slots at) || (is_taken (slot_at slots at) && is_noted slots (at + 1) n hash place)
 
--- whether none of so many slots from here on is empty
+-- whether none of this many slots from here on is empty
 abbrev pub is_full : List Slot → ℕ → ℕ → Bool
 is_full slots at zero = true
 is_full slots at (suc n) = is_taken (slot_at slots at) && is_full slots (at + 1) n
 
--- whether a slot is empty, and one of so many from here on of which none before it is
+-- whether a slot is empty, and one of this many from here on of which none before it is
 abbrev pub is_free : List Slot → ℕ → ℕ → ℕ → Bool
 is_free slots at zero slot = false
 is_free slots at (suc n) slot = (at == slot && not (is_taken (slot_at slots at))) || (is_taken (slot_at slots at) && is_free slots (at + 1) n slot)

@@ -10,7 +10,7 @@ use Rattle.key_table.specs.declared.strays.Strays.{Strays}
 abbrev pub most : ℕ
 most = 4294967290
 
--- how many more entries fit in lists of these capacities, where so many are
+-- how many more entries fit in lists of these capacities, if this many are there
 abbrev pub room : ℕ → ℕ → ℕ → ℕ
 room entries hashes len = min (min (entries - len) (hashes - len)) (most - len)
 

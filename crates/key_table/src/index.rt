@@ -46,18 +46,18 @@ pub(crate) fn find<K: TableKey, V>(
     }
 }
 
-/// Where a key is, and what was done where it is nowhere.
+/// Where a key is, and what was done if it is nowhere.
 #[derive(Clone, Copy, Drop)]
 pub(crate) enum Noting {
     /// It is at this place.
     At(usize),
     /// It was nowhere. An empty slot notes the place past all entries for it now.
     Noted,
-    /// It is nowhere, and no slot that a look for it comes to is empty.
+    /// It is nowhere, and no slot that a search for it reaches is empty.
     Nowhere,
 }
 
-/// Looks for a key among entries. Where that ends at an empty slot, the slot notes a place for it past all entries.
+/// Searches entries for a key. If the search ends at an empty slot, the slot notes a place for it past all entries.
 pub(crate) fn find_or_note<K: TableKey, V>(
     slots: &mut [Slot],
     strays: &Strays<K>,

@@ -6,10 +6,10 @@ ghost use Rattle.key_table.specs.Tables.{most, room};
 use crate::key::TableKey;
 use std::alloc::{AllocError, AllocFailed, Global};
 
-/// So many entries there are at most.
+/// The most entries that there may be.
 const MOST: usize = 4_294_967_290;
 
-/// Makes room in both lists for so many more entries.
+/// Makes room in both lists for `additional` entries.
 pub(crate) fn reserve_both<K, V>(
     entries: &mut Vec<(K, V)>,
     hashes: &mut Vec<u32>,

@@ -16,10 +16,10 @@ pub(crate) struct Slot {
 /// The place in a slot that is empty.
 const NO_PLACE: u32 = u32::MAX;
 
-/// So many slots are looked at for a hash.
+/// How many slots are searched for a hash.
 const STEPS: usize = 16;
 
-/// Where a key was looked for, and found or not.
+/// Where the search for a key ended, and whether it was found.
 #[derive(Clone, Copy, Drop)]
 pub(crate) enum Looked {
     /// It is at this place.
@@ -30,7 +30,7 @@ pub(crate) enum Looked {
     Beyond,
 }
 
-/// So many slots, all empty.
+/// A list of `count` slots, all empty.
 pub(crate) fn empty_slots(alloc: Global, count: usize) -> Result<Vec<Slot>, AllocError> {
     let mut slots = Vec::new(alloc);
     let empty = Slot {

@@ -124,12 +124,12 @@ impl<K: TableKey, V> KeyTable<K, V> {
 
     // ---- room
 
-    /// Whether so many more entries find enough slots that are empty.
+    /// Whether `additional` more entries find enough empty slots.
     fn has_slots(&self, additional: usize) -> bool {
         self.used.saturating_add(additional) <= self.slots.len() / 2
     }
 
-    /// Enough slots for so many more entries. Where memory for them is refused, the table stays as it is, and calls take longer.
+    /// Makes enough slots for `additional` more entries. If out of memory, the table stays as it is, and calls take longer.
     #[cold]
     #[inline(never)]
     fn make_slots(&mut self, additional: usize)
@@ -150,7 +150,7 @@ impl<K: TableKey, V> KeyTable<K, V> {
         self.strays = strays;
     }
 
-    /// Room in the lists for so many more entries.
+    /// Makes room in the lists for `additional` more entries.
     fn grow(&mut self, additional: usize) -> Result<(), AllocError>
         ensures entries { IsUnchanged self.old self.new }
         ensures ok { OnOk result (additional ≤ spare self.new) }
@@ -161,7 +161,7 @@ impl<K: TableKey, V> KeyTable<K, V> {
         reserve_both(&mut self.entries, &mut self.hashes, additional)
     }
 
-    /// Makes room for so many more entries, so that as many inserts need no memory.
+    /// Makes room for `additional` more entries, so that as many inserts need no memory.
     pub fn reserve(&mut self, additional: usize) -> Result<(), AllocError>
         ensures entries { IsUnchanged self.old self.new }
         ensures ok { OnOk result (additional ≤ spare self.new) }
@@ -392,7 +392,7 @@ impl<K: TableKey, V> KeyTable<K, V> {
         self.entries.pop()
     }
 
-    /// Keeps the first entries, so many.
+    /// Keeps the first `len` entries.
     pub fn truncate(&mut self, len: usize)
     where
         V: Drop,

@@ -1,45 +1,19 @@
 -- The greatest place among the last writers of an entry's keys is its last_committed.
-use Rattle.std.proofs.Common.{◌≡◌, ◌<◌, ◌+◌, ◌==◌, ◌||◌, ℕ, Bool, true, false, cond, List, [], ◌∷◌, ◌++◌, Option, Some, None, length, max, refl, sym, ap, ◌∙◌, arith}
+use Rattle.std.proofs.Common.{◌≡◌, ◌<◌, ◌+◌, ◌==◌, ℕ, Bool, true, false, cond, List, [], ◌∷◌, ◌++◌, Option, Some, None, length, max, refl, sym, ap, ◌∙◌, arith}
 use Rattle.std.proofs.lemmas.Bool.Decides.{nat_tests}
 use Rattle.std.specs.FinMap.{get, empty, get-empty}
 use Rattle.std.specs.List.{list_any}
 use Rattle.rows.specs.declared.change.Key.{Key}
 use Rattle.rows.specs.declared.schema.Table.{Table}
 use Rattle.rows.specs.declared.change.Transaction.{Transaction}
-use Rattle.rows.specs.Order.{key_cmp, key_eq}
-use Rattle.rows.specs.Total.{key_total}
+use Rattle.rows.specs.Order.{key_cmp}
 use Rattle.rows.specs.WriteSet.{write_set, touches, shares_key}
+use Rattle.rows.specs.Conflicts.{shares_both_ways}
 use Rattle.journal.specs.declared.Entry.{Entry}
-use Rattle.std.proofs.lemmas.Cmp.{eq_by_cmp_equiv}
 use Rattle.logical_timestamps.specs.Timestamps.{last_place, last_committed}
 use Rattle.logical_timestamps.specs.Writers.{Writers, IsNext, record_writes, writers_after, earlier_place, latest_in_turn}
 use Rattle.logical_timestamps.proofs.Places.{last_place_below, latest, any_place}
 use Rattle.logical_timestamps.proofs.Writing.{place_or_0, writers_at, writers_more, in_turn, agree}
-
--- ---- sharing a key goes both ways
-
-or_four : (a b c d : Bool) → ((a || b) || (c || d)) ≡ ((a || c) || (b || d))
-or_four true b c d = refl
-or_four false true true d = refl
-or_four false true false d = refl
-or_four false false c d = refl
-
-any_or : (p q : Key → Bool) (xs : List Key) → list_any (λ x. p x || q x) xs ≡ (list_any p xs || list_any q xs)
-any_or p q [] = refl
-any_or p q (x ∷ xs) = ap (λ b. (p x || q x) || b) (any_or p q xs) ∙ or_four (p x) (q x) (list_any p xs) (list_any q xs)
-
-any_false : (xs : List Key) → list_any (λ x. false) xs ≡ false
-any_false [] = refl
-any_false (x ∷ xs) = any_false xs
-
-swapped : (f : Key → Key → Bool) (a b : List Key) → list_any (λ x. list_any (λ y. f x y) b) a ≡ list_any (λ y. list_any (λ x. f x y) a) b
-swapped f [] b = sym (any_false b)
-swapped f (x ∷ a) b = ap (λ c. list_any (λ y. f x y) b || c) (swapped f a b) ∙ sym (any_or (λ y. f x y) (λ y. list_any (λ x. f x y) a) b)
-
-shares_both : (schema : List Table) (t u : Transaction) → shares_key schema t u ≡ shares_key schema u t
-shares_both schema t u =
-    swapped key_eq (write_set schema t) (write_set schema u)
-    ∙ (λ i. list_any (λ y. list_any (λ x. (eq_by_cmp_equiv key_total).symm x y i) (write_set schema t)) (write_set schema u))
 
 -- ---- the next entry
 
@@ -67,10 +41,14 @@ latest_is schema earlier e =
     ∙ from_0 (latest (λ k. earlier_place (length earlier + 1) (get (writers_after schema earlier) k)) keys)
     ∙ agree (λ k. earlier_place (length earlier + 1) (get (writers_after schema earlier) k)) (λ k. last_place (λ (f : Entry). touches schema f.txn k) 1 0 earlier) (before schema earlier) keys
     ∙ any_place (λ (f : Entry) (k : Key). touches schema f.txn k) 1 earlier keys (omega arith)
-    ∙ (λ i. last_place (λ (f : Entry). shares_both schema e.txn f.txn i) 1 0 earlier)
+    ∙ (λ i. last_place (λ (f : Entry). sharing_there f.txn i) 1 0 earlier)
   where
     from_0 : (n : ℕ) → max 0 n ≡ n
     from_0 n = omega arith
+
+    -- an entry whose keys are touched shares one
+    sharing_there : (t : Transaction) → list_any (touches schema t) (write_set schema e.txn) ≡ shares_key schema t e.txn
+    sharing_there t = shares_both_ways schema e.txn t
 
 -- what the table gives for the next entry
 pub next_last_committed : (schema : List Table) (writers : Writers) (place : ℕ) (earlier : List Entry) (e : Entry) → IsNext writers schema place earlier

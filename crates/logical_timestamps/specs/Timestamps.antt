@@ -9,7 +9,7 @@ abbrev pub last_place : {A : Type 0} → (A → Bool) → ℕ → ℕ → List A
 last_place p place found [] = found
 last_place p place found (x ∷ xs) = last_place p (place + 1) (if p x then place else found) xs
 
--- the place, from 1, of the last of the earlier entries that shares a key with this one; 0 where none does
+-- the place, from 1, of the last of the earlier entries that shares a key with this one; 0 if none does
 abbrev pub last_committed : List Table → List Entry → Entry → ℕ
 last_committed schema earlier e = last_place (λ (f : Entry). shares_key schema f.txn e.txn) 1 0 earlier
 

@@ -45,7 +45,7 @@ AreNextWriters writers schema place e after = (earlier : List Entry) → IsNext 
 
 -- ---- by one look-up a key
 
--- the place of an earlier writer than the entry at this place; 0 where there is none
+-- the place of an earlier writer than the entry at this place; 0 if there is none
 abbrev pub earlier_place : ℕ → Option ℕ → ℕ
 earlier_place place None = 0
 earlier_place place (Some before) = if before == place then 0 else before

@@ -6,21 +6,22 @@ use Rattle.std.specs.FinSet as set
 use Rattle.std.specs.FinSet.{contains-union}
 use Rattle.std.proofs.lemmas.Bool.{or_cases, or_left, or_right}
 use Rattle.std.proofs.lemmas.Option.{same_Some}
+use Rattle.lemmas.proofs.Tests.{on_test}
+use Rattle.lemmas.proofs.Lists.{get_append_left, get_set_cases}
+use Rattle.lemmas.proofs.Options.{none_some, on_option}
+use Rattle.lemmas.proofs.SameGtid.{gtid_total, same_itself}
 use Rattle.gtid_text.specs.declared.Gtid.{Gtid}
 use Rattle.gtid_text.specs.Gtids.{same_gtid}
-use Rattle.gtid_text.proofs.SameGtid.{gtid_total, same_itself}
 use Rattle.gtid_set.specs.Sets.{Gtids}
 use Rattle.rows.specs.Fits.{misfit}
-use Rattle.rows.proofs.Lists.{none_some, on_option, get_append_left}
 use Rattle.journal.specs.declared.Entry.{Entry}
 use Rattle.apply_channel.specs.Channels.{ChannelValue, Received, received_gtids, is_full}
 use Rattle.replica_core.specs.declared.event.Reply.TheVariants.{NotInSchema, Ask}
 use Rattle.replica_core.specs.State.{State, Site}
 use Rattle.replica_core.specs.Machine.{Step, ask, with_channel, position_on, receive}
-use Rattle.ordered_journals.proofs.Lists.{on_test, get_set_cases}
-use Rattle.ordered_journals.proofs.Covering.{in_gtids}
-use Rattle.ordered_replicas.proofs.Invariant.{Stands}
-use Rattle.ordered_replicas.proofs.Receiving.{received_entry, among_received}
+use Rattle.history.proofs.Covering.{in_gtids}
+use Rattle.convergence.proofs.Invariant.{Stands}
+use Rattle.convergence.proofs.Receiving.{received_entry, among_received}
 use Rattle.network.specs.Machine.{come}
 use Rattle.network.proofs.Moving.{Was}
 

@@ -4,6 +4,9 @@ use Rattle.std.specs.Prelude.{slice_get, slice_set, nat_le, nat_lt}
 use Rattle.std.specs.Option.{option_map_or}
 use Rattle.std.specs.List.{list_any}
 use Rattle.std.specs.FinSet as set
+use Rattle.lemmas.proofs.Options.{none_some, on_option}
+use Rattle.lemmas.proofs.Lists.{get_push_cases, get_set_cases, get_map, get_map_cases}
+use Rattle.lemmas.proofs.Tests.{on_test}
 use Rattle.gtid_text.specs.declared.Gtid.{Gtid}
 use Rattle.gtid_set.specs.Sets.{Gtids, gtid}
 use Rattle.rows.specs.declared.change.Transaction.{Transaction}
@@ -18,10 +21,8 @@ use Rattle.replica_core.specs.declared.event.Event.TheVariants.{OpenChannel, Pos
 use Rattle.replica_core.specs.declared.event.Reply.TheVariants.{NotInSchema, Ask, SeatBusy, OwnedBy, Blocked, Early, RolledBack, Restarted}
 use Rattle.replica_core.specs.State.{State, Site, owned_by, owner}
 use Rattle.replica_core.specs.Machine.{Step, is_seat, ask, blocking, open_before, with_channel, without_seat, set_stopped_at, open_channel, position_on, receive, take_entry, take_place, held, commit_answer, commit_held, commit, rollback, restart, next_number, local_answer, local, purge, step}
-use Rattle.ordered_journals.proofs.Lists.{on_test, get_push_cases, get_set_cases, get_map}
-use Rattle.ordered_replicas.proofs.Invariant.{Stands}
-use Rattle.ordered_replicas.proofs.Receiving.{settle_gtid}
-use Rattle.rows.proofs.Lists.{none_some, on_option, get_map_cases}
+use Rattle.convergence.proofs.Invariant.{Stands}
+use Rattle.convergence.proofs.Receiving.{settle_gtid}
 use Rattle.network.specs.Machine.{is_for_network}
 
 -- ---- the own journal

@@ -3,6 +3,7 @@ use Rattle.std.proofs.Common.{◌≡◌, ℕ, ◌+◌, ◌<◌, ◌≤◌, Bool,
 use Rattle.std.specs.Prelude.{◌==◌, nat_lt}
 use Rattle.std.proofs.lemmas.Bool.{cases_Bool, eqb-true}
 use Rattle.std.proofs.lemmas.Bool.Decides.{nat_tests}
+use Rattle.lemmas.proofs.Numbers.{not_less}
 use Rattle.network.specs.Nodes.{Sources}
 use Rattle.network.specs.Slots.{sources_of}
 use Rattle.network.specs.Reading.{shift_place, reads, place_after, AreMoved}
@@ -25,9 +26,6 @@ next_less n c e = grind (e, arith, nat_tests)
 here_less : (n c : ℕ) → c ≡ n → nat_lt c (n + 1) ≡ true
 here_less n c e = grind (e, arith, nat_tests)
 
-here_not_less : (n : ℕ) → nat_lt n n ≡ false
-here_not_less n = grind (arith, nat_tests)
-
 -- one slot more, whatever it has now
 one_more : (n : ℕ) (sources : Sources) (k count : ℕ) (old new newer : List (Option ℕ)) → AreMovedTo n sources k count old new → length newer ≡ length new
     → ((c : ℕ) → (c == n) ≡ false → get_or newer c None ≡ get_or new c None) → get_or newer n None ≡ place_after sources k count n (get_or old n None) → AreMovedTo (n + 1) sources k count old newer
@@ -43,7 +41,7 @@ one_more n sources k count old new newer m same others here = record {
 }
 
 old_here : (n : ℕ) (sources : Sources) (k count : ℕ) (old new : List (Option ℕ)) → AreMovedTo n sources k count old new → get_or new n None ≡ get_or old n None
-old_here n sources k count old new m = m.each n ∙ ap (λ b. cond b (place_after sources k count n (get_or old n None)) (get_or old n None)) (here_not_less n)
+old_here n sources k count old new m = m.each n ∙ ap (λ b. cond b (place_after sources k count n (get_or old n None)) (get_or old n None)) (not_less n)
 
 -- the channel reads the node: its place moves
 pub one_moves : (n : ℕ) (sources : Sources) (k count : ℕ) (old new : List (Option ℕ)) (v : Option ℕ) → n < length new → AreMovedTo n sources k count old new → reads sources n k ≡ true → v ≡ shift_place count (get_or new n None)

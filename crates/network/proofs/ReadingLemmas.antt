@@ -1,22 +1,25 @@
 -- How far a channel has read its source's binary log stays true, whatever the nodes make.
-use Rattle.std.proofs.Common.{◌≡◌, ◌≢◌, ℕ, zero, suc, ◌+◌, ◌-◌, ◌<◌, ◌≤◌, Bool, true, false, cond, ◌&&◌, not, ◌⊎◌, inl, inr, List, [], ◌∷◌, ◌++◌, length, take, drop, Option, Some, None, Result, Ok, Err, IfOk, OnErr, refl, sym, ap, ◌∙◌, subst, arith, eqb, true≢false, length-append, length-set}
+use Rattle.std.proofs.Common.{◌≡◌, ◌≢◌, ℕ, zero, suc, ◌+◌, ◌-◌, ◌<◌, ◌≤◌, Bool, true, false, cond, not, ◌⊎◌, inl, inr, List, [], ◌∷◌, ◌++◌, length, take, drop, Option, Some, None, Result, Ok, Err, IfOk, OnErr, refl, sym, ap, ◌∙◌, subst, arith, eqb, true≢false, length-append, length-set}
 use Rattle.std.specs.Prelude.{slice_get, slice_set, nat_le, ◌==◌, find}
 use Rattle.std.specs.Option.{option_map_or}
 use Rattle.std.specs.List.{list_all}
 use Rattle.std.specs.FinMap as finmap
 use Rattle.std.specs.FinSet as set
 use Rattle.std.specs.FinSet.{contains-union, is_subset-contains, contains-is_subset}
-use Rattle.std.proofs.lemmas.Bool.{or_cases, and_parts, cases_Bool, eqb-true, eq-eqb, leb-true}
+use Rattle.std.proofs.lemmas.Bool.{or_cases, and_parts, cases_Bool, eqb-true, eq-eqb, leb-true, and_from}
 use Rattle.std.proofs.lemmas.Bool.Decides.{nat_tests}
 use Rattle.std.proofs.lemmas.List.{take-append-le, length-drop}
 use Rattle.std.proofs.lemmas.Option.{same_Some, slice_get_within}
 use Rattle.std.specs.Ordering.{nat_cmp}
 use Rattle.std.specs.Cmp.{nat_cmp_total, unsigned_tied}
+use Rattle.lemmas.proofs.Tests.{on_test}
+use Rattle.lemmas.proofs.Numbers.{lt_cases}
+use Rattle.lemmas.proofs.Options.{none_some, on_option}
+use Rattle.lemmas.proofs.SameGtid.{gtid_total, same_is_equal}
+use Rattle.lemmas.proofs.Lists.{set_there, get_set_cases}
 use Rattle.gtid_text.specs.declared.Gtid.{Gtid}
 use Rattle.gtid_text.specs.Gtids.{same_gtid}
-use Rattle.gtid_text.proofs.SameGtid.{gtid_total, same_is_equal}
 use Rattle.gtid_set.specs.Sets.{Gtids}
-use Rattle.rows.proofs.Lists.{none_some, on_option, lt_cases}
 use Rattle.journal.specs.declared.Entry.{Entry}
 use Rattle.journal.specs.Journals.{JournalValue, gtids_of, previous_after_purge}
 use Rattle.relay.specs.Own.{with_last, purge_to}
@@ -29,8 +32,7 @@ use Rattle.replica_core.specs.declared.event.Reply.{Reply}
 use Rattle.replica_core.specs.declared.event.Reply.TheVariants.{NotInSchema, Ask}
 use Rattle.replica_core.specs.State.{State, Site, Replica}
 use Rattle.replica_core.specs.Machine as core
-use Rattle.ordered_journals.proofs.Lists.{on_test, get_set_cases}
-use Rattle.ordered_journals.proofs.Covering.{is_entry, in_entries}
+use Rattle.history.proofs.Covering.{is_entry, in_entries}
 use Rattle.network.specs.Nodes.{Node, Sources}
 use Rattle.network.specs.Machine.{come, is_for_network}
 use Rattle.network.specs.Made.{Makes, MakesAt}
@@ -38,14 +40,11 @@ use Rattle.network.specs.Reading.{Places, has_come, HasRead, IsRead, IsReadFrom,
 use Rattle.network.proofs.Moving.{Journals, Moves, step_moves}
 use Rattle.network.proofs.Coming.{Grew, still_come, grew_as_before, grew_same, position_grew, receive_grew}
 
-both_true : (x y : Bool) → x ≡ true → y ≡ true → (x && y) ≡ true
-both_true x y p q = λ i. p i && q i
-
 -- ---- what a channel has grows
 
 all_more : (f g : Entry → Bool) (es : List Entry) → ((e : Entry) → f e ≡ true → g e ≡ true) → list_all f es ≡ true → list_all g es ≡ true
 all_more f g [] h all = refl
-all_more f g (e ∷ es) h all = let two = and_parts (f e) (list_all f es) all in both_true (g e) (list_all g es) (h e two.0) (all_more f g es h two.1)
+all_more f g (e ∷ es) h all = let two = and_parts (f e) (list_all f es) all in and_from (g e) (list_all g es) (h e two.0) (all_more f g es h two.1)
 
 pub read_more : (came more : Gtids) → ((g : Gtid) → set.contains came g ≡ true → set.contains more g ≡ true) → (journal : JournalValue) (place : Option ℕ) → IsRead came journal place → IsRead more journal place
 read_more came more grows journal None r = tt
@@ -70,7 +69,7 @@ all_front f (suc count) p [] h all = refl
 all_front f (suc count) zero (e ∷ es) h all = absurd (omega arith)
 all_front f (suc count) (suc p) (e ∷ es) h all =
     let two = and_parts (f e) (list_all f (take p es)) all in
-    both_true (f e) (list_all f (take count es)) two.0 (all_front f count p es (omega (h, arith)) two.1)
+    and_from (f e) (list_all f (take count es)) two.0 (all_front f count p es (omega (h, arith)) two.1)
 
 -- entries of a prefix, without the first ones
 all_behind : (f : Entry → Bool) (count p : ℕ) (es : List Entry) → list_all f (take p es) ≡ true → list_all f (take (p - count) (drop count es)) ≡ true
@@ -303,11 +302,6 @@ none_moved N R i count none = record {
 }
 
 -- ---- what the calls leave
-
-set_there : {A : Type 0} (xs : List A) (i : ℕ) (x v : A) → slice_get xs i ≡ Some x → slice_get (slice_set xs i v) i ≡ Some v
-set_there [] i x v e = none_some x e
-set_there (y ∷ xs) zero x v e = refl
-set_there (y ∷ xs) (suc i) x v e = set_there xs i x v e
 
 -- a Position leaves the binary log as it was
 record KeepsLog (s : State) (after : core.Step) : Type 0 where

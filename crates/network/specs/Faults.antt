@@ -21,7 +21,7 @@ use Rattle.network.specs.Machine.{Decision, decide}
 abbrev pub IsCauseBy : SetFault → Event → Node → Type 0
 IsCauseBy f e node = IsCause f node.replica.site node.replica.state e
 
--- the same of the node at a place; where none is there, an allocation alone may fail
+-- the same of the node at a place; if none is there, only an allocation may fail
 abbrev pub IsCauseAt : SetFault → List Node → ℕ → Event → Type 0
 IsCauseAt f nodes i e = MatchOption (slice_get nodes i) (f ≡ Memory) (IsCauseBy f e)
 
@@ -67,7 +67,7 @@ IsFaultAt f nodes (Some e) = IsEventCause f nodes e
 
 -- ---- memory that was refused
 
--- memory was refused only where the set that a node's replica makes by an event, if it makes one, has not too many sources
+-- out of memory only if the set that a node's replica makes by an event, if it makes one, has not too many sources
 abbrev pub HasRoomBy : SetFault → Event → Node → Type 0
 HasRoomBy f e node = HasRoomFor f (set_made_by node.replica.site node.replica.state e)
 
@@ -93,8 +93,8 @@ pub record IsReadAnew (nodes : List Node) (i c : ℕ) : Type 0 where
   pub with : channel.asked ≡ Some asked
   pub more : set.is_subset source.replica.state.journal.previous asked ≡ false
 
--- Memory was refused only where the set that an event makes, if it makes one, has not too many sources. A Receive may be refused it before
--- it is known what is received.
+-- Out of memory only if the set that an event makes, if it makes one, has not too many sources. A Receive may be refused it before it is
+-- known what is received.
 abbrev pub HasRoomIn : SetFault → List Node → NetworkEvent → Type 0
 HasRoomIn f nodes (Act i e) = HasRoomOf f nodes (decide nodes (Act i e))
 HasRoomIn f nodes (Position i c k) = HasRoomAt f nodes i (event.Position c)

@@ -13,7 +13,7 @@ use Rattle.apply_channel.specs.Channels.{ChannelValue}
 use Rattle.network.specs.Nodes.{Node, Sources}
 use Rattle.network.specs.Machine.{come}
 
--- the place that each channel has read to, where it is known
+-- the place that each channel has read to, if it is known
 abbrev pub Places : Type 0
 Places = finmap.FinMap nat_cmp ℕ
 
@@ -26,7 +26,7 @@ pub record HasRead (came : Gtids) (journal : JournalValue) (place : ℕ) : Type 
   pub short : place ≤ length journal.entries
   pub entries : list_all (has_come came) (take place journal.entries) ≡ true
 
--- the same where a place is known
+-- the same if a place is known
 abbrev pub IsRead : Gtids → JournalValue → Option ℕ → Type 0
 IsRead came journal None = Unit {0}
 IsRead came journal (Some place) = HasRead came journal place
@@ -48,7 +48,7 @@ pub record AreRead (nodes : List Node) (readers : List Places) : Type 0 where
 abbrev pub entries_at : List Node → ℕ → ℕ
 entries_at nodes i = option_map_or (λ (n : Node). length n.replica.state.journal.entries) (slice_get nodes i) 0
 
--- a place, once so many entries are purged: it is no longer known where they do not all come before it
+-- a place after a purge of this many entries: it is no longer known unless they all come before it
 abbrev pub shift_place : ℕ → Option ℕ → Option ℕ
 shift_place count None = None
 shift_place count (Some place) = if nat_le count place then Some (place - count) else None
@@ -57,7 +57,7 @@ shift_place count (Some place) = if nat_le count place then Some (place - count)
 abbrev pub reads : Sources → ℕ → ℕ → Bool
 reads sources c k = option_map_or (λ source. source == k) (finmap.get sources c) false
 
--- the place of a channel, once so many entries of this node are purged
+-- the place of a channel after a purge of this many entries of this node
 abbrev pub place_after : Sources → ℕ → ℕ → ℕ → Option ℕ → Option ℕ
 place_after sources k count c place = if reads sources c k then shift_place count place else place
 

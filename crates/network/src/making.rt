@@ -9,7 +9,7 @@ ghost use Rattle.network.specs.Faults.{IsCauseAt, HasRoomAt};
 ghost use Rattle.network.specs.Reading.{AreRead, AreAllMoved, IsReadFrom, entries_at};
 
 use crate::node::Node;
-use crate::reader::Reader;
+use crate::reader::NodeReader;
 use gtid_set::SetFault;
 use journal::Entry;
 use replica_core::{Event, Reply};
@@ -33,7 +33,7 @@ fn make_at(
     one.make(alloc, event)
 }
 
-/// The fault of an event of the node at a place where memory is refused before it.
+/// The fault of an event of the node at a place if there is no memory before it.
 pub(crate) fn refusal_at(nodes: &[Node], node: usize, event: &Event) -> SetFault
     ensures cause { IsCauseAt result nodes.now node event.now }
     ensures room { HasRoomAt result nodes.now node event.now }
@@ -54,8 +54,8 @@ fn entries_at(nodes: &[Node], node: usize) -> usize
     }
 }
 
-/// So many entries of one node were purged: moves the places of all channels that read it.
-fn move_back(readers: &mut [Reader], nodes: &[Node], source: usize, count: usize)
+/// Moves the places of all channels that read a node, of which `count` entries were purged.
+fn move_back(readers: &mut [NodeReader], nodes: &[Node], source: usize, count: usize)
     requires { length readers.old ≡ length nodes.now }
     ensures { AreAllMoved nodes.now source count readers.old readers.new }
 {
@@ -64,10 +64,10 @@ fn move_back(readers: &mut [Reader], nodes: &[Node], source: usize, count: usize
     }
 }
 
-/// The node at a place makes an event of its own. Where that purges entries, the places of the channels that read it move.
+/// The node at a place makes an event of its own. If that purges entries, the places of the channels that read it move.
 pub(crate) fn act_at(
     nodes: &mut Vec<Node>,
-    readers: &mut [Reader],
+    readers: &mut [NodeReader],
     alloc: Global,
     node: usize,
     event: &Event,
@@ -94,7 +94,7 @@ pub(crate) fn act_at(
 /// The node at a place positions a channel at a source. How far the channel has read is then no longer known.
 pub(crate) fn position_at(
     nodes: &mut Vec<Node>,
-    readers: &mut [Reader],
+    readers: &mut [NodeReader],
     alloc: Global,
     node: usize,
     channel: usize,
@@ -116,7 +116,7 @@ pub(crate) fn position_at(
 /// A channel of the node at a place receives an entry; it has those before this place.
 pub(crate) fn receive_at(
     nodes: &mut Vec<Node>,
-    readers: &mut [Reader],
+    readers: &mut [NodeReader],
     alloc: Global,
     node: usize,
     channel: usize,

@@ -12,7 +12,7 @@ ghost use Rattle.network.specs.declared.event.NetworkEvent.TheVariants.{Act, Pos
 use crate::event::{NetworkEvent, NetworkReply, is_for_network};
 use crate::making::{act_at, position_at, receive_at, refusal_at};
 use crate::node::Node;
-use crate::reader::Reader;
+use crate::reader::NodeReader;
 use crate::reading::{next_place, refusal_to_receive, start};
 use auto_position::{PositionFault, plan};
 use gtid_set::SetFault;
@@ -27,7 +27,7 @@ use std::marker::Model;
 pub struct Network {
     nodes: Vec<Node>,
     // How far the channels of each node are known to have read.
-    readers: Vec<Reader>,
+    readers: Vec<NodeReader>,
 }
 
 impl Drop for Network {
@@ -112,7 +112,7 @@ impl Network {
             let copy = rows.copy()?;
             let node = Node::open(alloc, *own, copy)?;
             nodes.push(node)?;
-            readers.push(Reader::new(alloc))?;
+            readers.push(NodeReader::new(alloc))?;
         }
         Ok(Network { nodes, readers })
     }
@@ -135,7 +135,7 @@ impl Network {
         Ok(NetworkReply::Replied(reply))
     }
 
-    /// A channel of a node is positioned at a source, where the source sends.
+    /// Positions a channel of a node at a source, if the source sends.
     fn position(
         &mut self,
         alloc: Global,
@@ -255,9 +255,9 @@ impl Network {
         }
     }
 
-    /// One event: its reply, and the nodes that it leaves. After an error nothing has changed. `SourcesFull` and `PoolFull` come only where
-    /// a set that the event makes would have more than 65,536 sources, or its operands together more than 4,294,967,294 intervals. `Memory`
-    /// comes only where that set has not too many sources (`room`), unless a Receive needs memory to find out what it receives.
+    /// One event: its reply, and the nodes that it leaves. After an error nothing has changed. `SourcesFull` and `PoolFull` come only if a
+    /// set that the event makes would have more than 65,536 sources, or its operands together more than 4,294,967,294 intervals. `Memory`
+    /// comes only if that set has not too many sources (`room`), unless a Receive needs memory to find out what it receives.
     pub fn step(&mut self, alloc: Global, event: &NetworkEvent) -> Result<NetworkReply, SetFault>
         requires { is_numbered event.now ≡ true }
         ensures ok { IfOk result (λ r. (r, self.new) ≡ step self.old event.now) }
@@ -276,7 +276,7 @@ impl Network {
         }
     }
 
-    /// The fault of a Receive where memory is refused before it.
+    /// The fault of a Receive if there is no memory before it.
     fn refusal_to_receive(&self, alloc: Global, node: usize, channel: usize) -> SetFault
         ensures fault { IsEventCause result self.now (Receive node channel) }
         ensures room { HasRoomIn result self.now (Receive node channel) }
@@ -291,7 +291,7 @@ impl Network {
         }
     }
 
-    /// The fault of an event where memory is refused before it.
+    /// The fault of an event if there is no memory before it.
     fn refusal(&self, alloc: Global, event: &NetworkEvent) -> SetFault
         ensures fault { IsEventCause result self.now event.now }
         ensures room { HasRoomIn result self.now event.now }
@@ -315,7 +315,7 @@ impl Network {
     }
 }
 
-/// Puts a reply at the end, where there is room.
+/// Appends a reply, if there is room.
 fn put(so_far: &mut Vec<NetworkReply>, reply: NetworkReply)
     requires { vec_len so_far.old < vec_capacity so_far.old }
     ensures { so_far.new.items ≡ so_far.old.items ++ reply ∷ [] }

@@ -78,7 +78,7 @@ impl Node {
         }
     }
 
-    /// The fault of an event of the replica where memory is refused before it.
+    /// The fault of an event of the replica if there is no memory before it.
     pub(crate) fn refusal(&self, event: &Event) -> SetFault
         ensures cause { IsCauseBy result event.now self.now }
         ensures room { HasRoomBy result event.now self.now }

@@ -9,13 +9,13 @@ use crate::slots::{fill, free, make_slots, slot_at};
 use std::alloc::{AllocError, Global};
 use std::marker::Model;
 
-/// For each channel of a node, how many entries at the start of its source's binary log it has, where that is known.
+/// For each channel of a node, how many entries at the start of its source's binary log it has, if that is known.
 #[derive(Drop)]
-pub(crate) struct Reader {
+pub(crate) struct NodeReader {
     places: Vec<Option<usize>>,
 }
 
-impl Model for Reader {
+impl Model for NodeReader {
     ghost use Rattle.std.specs.Coded.{codes};
     ghost use Rattle.network.specs.Slots.{sources_of, sources_code};
     ghost use Rattle.network.specs.Reading.{Places};
@@ -27,7 +27,7 @@ impl Model for Reader {
     ghost view = { λ r. sources_of r.places.items };
 }
 
-/// A place, once so many entries are purged.
+/// A place after a purge of this many entries.
 fn shift_place(place: Option<usize>, count: usize) -> Option<usize>
     ensures { result ≡ shift_place count place }
 {
@@ -39,7 +39,7 @@ fn shift_place(place: Option<usize>, count: usize) -> Option<usize>
     }
 }
 
-/// Moves back the places of the channels that read a node of which so many entries were purged.
+/// Moves back the places of the channels that read a node after a purge of this many entries.
 fn move_slots(places: &mut [Option<usize>], node: &Node, source: usize, count: usize)
     ensures { AreMoved node.now.sources source count (sources_of places.old) (sources_of places.new) }
 {
@@ -50,24 +50,24 @@ fn move_slots(places: &mut [Option<usize>], node: &Node, source: usize, count: u
     }
 }
 
-impl Reader {
+impl NodeReader {
     /// No channel's place is known.
-    pub(crate) fn new(alloc: Global) -> Reader
+    pub(crate) fn new(alloc: Global) -> NodeReader
         ensures { result ≡ finmap.empty }
     {
-        Reader {
+        NodeReader {
             places: Vec::new(alloc),
         }
     }
 
-    /// How many entries at the start a channel has, where that is known.
+    /// How many entries at the start a channel has, if that is known.
     pub(crate) fn place(&self, channel: usize) -> Option<usize>
         ensures { result ≡ finmap.get self.now channel }
     {
         slot_at(&self.places, channel)
     }
 
-    /// A channel has so many entries at the start.
+    /// Notes that a channel has this many entries at the start.
     pub(crate) fn put(&mut self, channel: usize, place: usize) -> Result<(), AllocError>
         ensures ok { OnOk result (self.new ≡ finmap.insert self.old channel place) }
         ensures err { OnErr result (self.new ≡ self.old) }
@@ -84,7 +84,7 @@ impl Reader {
         free(&mut self.places, channel);
     }
 
-    /// So many entries of one node were purged: moves the places of the channels that read it.
+    /// Moves the places of the channels that read a node, of which `count` entries were purged.
     pub(crate) fn move_back(&mut self, node: &Node, source: usize, count: usize)
         ensures { AreMoved node.now.sources source count self.old self.new }
     {

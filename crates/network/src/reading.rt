@@ -56,7 +56,7 @@ pub(crate) fn next_place(
     next
 }
 
-/// The fault of a Receive of an entry where memory is refused before it.
+/// The fault of a Receive of an entry if there is no memory before it.
 pub(crate) fn refusal_to_receive(into: &Channel, entry: &Entry) -> SetFault
     ensures cause { IsFaultIn result (Some (gtids_with entry.now into.now.channel)) }
     ensures room { HasRoomFor result (Some (gtids_with entry.now into.now.channel)) }

@@ -5,7 +5,7 @@ ghost use Rattle.network.specs.Slots.{sources_of};
 
 use std::alloc::AllocError;
 
-/// What a slot holds, where there is the slot.
+/// What a slot holds, if there is the slot.
 pub(crate) fn slot_at(slots: &[Option<usize>], channel: usize) -> Option<usize>
     ensures { result ≡ finmap.get (sources_of slots.now) channel }
 {
@@ -35,7 +35,7 @@ pub(crate) fn fill(slots: &mut [Option<usize>], channel: usize, number: usize)
     slots[channel] = Some(number);
 }
 
-/// Frees a slot, where there is the slot.
+/// Frees a slot, if there is the slot.
 pub(crate) fn free(slots: &mut [Option<usize>], channel: usize)
     ensures { sources_of slots.new ≡ finmap.remove (sources_of slots.old) channel }
 {

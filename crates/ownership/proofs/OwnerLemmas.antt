@@ -1,14 +1,14 @@
 -- The owner, seat by seat.
 use Rattle.std.proofs.Common.{◌≡◌, ◌≢◌, ℕ, ◌+◌, ◌≤◌, ◌<◌, ◌⊎◌, inl, inr, zero, suc, Bool, true, false, cond, refl, sym, ap, ◌∙◌, arith, true≢false}
 use Rattle.std.specs.Prelude.{Option, Some, None, find, ◌==◌}
-use Rattle.std.proofs.lemmas.Bool.Decides.{nat_tests}
 use Rattle.std.specs.List.{range_with_len}
 use Rattle.std.specs.Option.{option_map_or}
 use Rattle.std.specs.Cmp.{nat_cmp_total, unsigned_tied}
 use Rattle.std.specs.FinMap as map
+use Rattle.lemmas.proofs.SameGtid.{same_itself, same_is_equal}
+use Rattle.lemmas.proofs.Numbers.{equal_numbers}
 use Rattle.gtid_text.specs.declared.Gtid.{Gtid}
 use Rattle.gtid_text.specs.Gtids.{same_gtid}
-use Rattle.gtid_text.proofs.SameGtid.{same_itself, same_is_equal}
 use Rattle.ownership.specs.Ownership.{Ownership, owner, owns, owned_by, seat_numbers, IsOwnedOnce, IsOfSeats, attempt}
 use Rattle.ownership.specs.declared.Attempt.TheVariants.{Owned, SeatBusy, OwnedBy}
 
@@ -30,9 +30,6 @@ unfolding owner_from
 owner_next owned gtid seat n m e = ap (λ k. find (owns owned gtid) (range_with_len seat k)) (sym e)
 
 -- ---- what the owner is
-
-pub equal_numbers : (a b : ℕ) → (a == b) ≡ true → a ≡ b
-equal_numbers a b e = grind (arith, nat_tests)
 
 held : (o : Option Gtid) (g : Gtid) → option_map_or (λ h. same_gtid h g) o false ≡ true → o ≡ Some g
 held None g e = absurd (true≢false (sym e))

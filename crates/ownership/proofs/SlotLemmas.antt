@@ -13,12 +13,7 @@ use Rattle.gtid_text.specs.declared.Gtid.{Gtid}
 use Rattle.ownership.specs.Slots.{taken_from, of_slots, owned_of}
 use Rattle.ownership.specs.Ownership.{IsSeat, IsOwnedOnce, IsOfSeats}
 use Rattle.std.proofs.lemmas.Option.{none-some}
-
-off : (q n : ℕ) → q < n → (q == n) ≡ false
-off q n h = grind (arith, nat_tests)
-
-on : (q : ℕ) → (q == q) ≡ true
-on q = grind (arith, nat_tests)
+use Rattle.lemmas.proofs.Numbers.{eqb_below as off, same_number as on}
 
 -- a seat before the first slot has nothing
 find_before : {X : Type 0} (q n : ℕ) (slots : List (Option X)) → q < n → find nat_cmp q (taken_from n slots) ≡ None

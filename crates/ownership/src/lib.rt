@@ -3,13 +3,13 @@
 //!
 //! What a contract sees: an `Owners` is a finite map from seats, 1 to 64, to GTIDs.
 //!
-//! `try_own` gives `SeatBusy` where the seat owns a GTID, else `OwnedBy` where another seat owns this one, else `Owned`; a second taker
-//! has its reply at once and never waits (our own rule). `one_seat_each` is the law that no GTID has two seats.
+//! `try_own` gives `SeatBusy` if the seat owns a GTID, else `OwnedBy` if another seat owns this one, else `Owned`; a second taker has its
+//! reply at once and never waits (our own rule). `one_seat_each` is the law that no GTID has two seats.
 //!
 //! The replica's state machine (`replica_core`) does not hold an `Owners`: there a seat owns the GTID at the place that it took, so
 //! ownership cannot differ from the places. It cites the lemmas on places in an array from here.
 //!
-//! How it is kept: a vector of 64 slots, made at `open`; after it only `list` allocates. The owner is searched for over all 64.
+//! How it is kept: a vector of 64 slots, made at `open`; after it only `list` allocates. The search for an owner looks at all 64.
 #![tactic(auto)]
 
 ghost use Rattle.std.specs.Prelude.{◌≡◌, ◌≢◌, ℕ, Some, IfSome, IfNone, IfOk};

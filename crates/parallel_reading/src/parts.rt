@@ -7,7 +7,7 @@ use std::thread;
 use std::thread::Threads;
 use txn_journal::ParsedLines;
 
-/// The first bytes of a text, so many or all, and what follows them.
+/// The first `size` bytes of a text, or all if there are fewer, and what follows them.
 pub fn cut_block(text: &[u8], size: usize) -> (&[u8], &[u8])
     ensures parts { text.now ≡ result.0.now ++ result.1.now }
     ensures smaller { 0 < size → 0 < length text.now → length result.1.now < length text.now }
@@ -18,8 +18,8 @@ pub fn cut_block(text: &[u8], size: usize) -> (&[u8], &[u8])
     text.split_at(size)
 }
 
-/// The parts of a text, of so many bytes each but the last, and behind them an empty one: `map_indices` makes its last call on the
-/// calling thread, which then waits for the others at once. (A thread that was just started may stand behind the thread that started it
+/// The parts of a text, each of `size` bytes but for the last, and after them an empty one: `map_indices` makes its last call on the
+/// calling thread, which then waits for the others at once. (A thread that was just started may be queued behind the thread that started it
 /// until that one waits, though other processors are idle.)
 fn parts_of(alloc: Global, text: &[u8], size: usize) -> Result<Vec<&[u8]>, AllocError>
     requires { 0 < size }
@@ -38,7 +38,7 @@ fn parts_of(alloc: Global, text: &[u8], size: usize) -> Result<Vec<&[u8]>, Alloc
     Ok(parts)
 }
 
-/// The lines of each part, parsed on a thread of its own where one can be started.
+/// The lines of each part, parsed on a thread of its own if one can be started.
 fn parse_all<'a, R: Threads + Sync>(
     rt: &R,
     alloc: Global,
@@ -46,7 +46,7 @@ fn parse_all<'a, R: Threads + Sync>(
 ) -> Result<Vec<ParsedLines<'a>>, AllocError>
     ensures { IfOk result (λ parsed. parsed.items ≡ map (λ p. p.now) parts.now) }
 {
-    let parsed = thread::map_indices(
+    thread::map_indices(
         rt,
         alloc,
         parts.len(),
@@ -54,11 +54,10 @@ fn parse_all<'a, R: Threads + Sync>(
             requires { i < length parts.now }
             ensures { (d : _) → result ≡ (slice_index_or parts.entry.now i d).now }
         { ParsedLines::parse(alloc, parts[i]) },
-    )?;
-    Ok(parsed)
+    )
 }
 
-/// The lines of a block, parsed in parts of so many bytes.
+/// The lines of a block, parsed in parts of `size` bytes.
 pub fn parse_block<'a, R: Threads + Sync>(
     rt: &R,
     alloc: Global,
@@ -69,6 +68,5 @@ pub fn parse_block<'a, R: Threads + Sync>(
     ensures { IfOk result (λ parsed. concat parsed.items ≡ block.now) }
 {
     let parts = parts_of(alloc, block, size)?;
-    let parsed = parse_all(rt, alloc, &parts)?;
-    Ok(parsed)
+    parse_all(rt, alloc, &parts)
 }

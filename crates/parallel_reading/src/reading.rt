@@ -21,11 +21,11 @@ const PART: usize = 1_048_576;
 /// How many it parses at least, unless that is all.
 const LEAST_PART: usize = 262_144;
 
-/// So many threads at most parse lines.
+/// The most threads that parse lines.
 const MOST_PARSERS: usize = 4;
 
-/// How many bytes of so many that are left a thread parses next. The parts become smaller towards the end, for nothing is parsed while
-/// the last are taken.
+/// How many bytes each thread parses next, at most, if `left` bytes are left. The parts become smaller towards the end, because nothing is
+/// parsed while the last ones are taken.
 fn part_size(left: usize, parsers: usize) -> usize
     requires some { 0 < parsers }
     requires few { parsers ≤ 4 }
@@ -44,7 +44,7 @@ fn take_all(alloc: Global, reader: &mut BundleReader, parsed: Vec<ParsedLines<'_
     }
 }
 
-/// Takes a block, whose lines were parsed, or not where memory was refused for them.
+/// Takes a block, whose lines were parsed, unless there was no memory for them.
 fn take_block(
     alloc: Global,
     reader: &mut BundleReader,
@@ -62,7 +62,7 @@ fn take_block(
     }
 }
 
-/// Takes a block, while the lines of the next one are parsed, in parts of so many bytes.
+/// Takes a block while the lines of the next one are parsed, in parts of `part` bytes.
 fn take_and_parse<'a, R: Threads + Sync>(
     rt: &R,
     alloc: Global,
@@ -122,8 +122,8 @@ fn fed_beside<R: Threads + Sync>(
     reader
 }
 
-/// Takes the next piece of a text. Its lines are parsed by as many threads as there are workers, but by one at least and four at most, while
-/// the lines before them are taken. What is wrong with the text is told when the reader ends.
+/// Takes the next piece of a text. Its lines are parsed by as many threads as there are workers, but by one at least and four at most,
+/// while the lines before them are taken. A fault of the text is reported by `BundleReader::finish`.
 pub fn feed_beside<R: Threads + Sync>(
     rt: &R,
     alloc: Global,

@@ -8,7 +8,7 @@ use Rattle.relay.specs.declared.Known.{Known}
 use Rattle.relay.specs.declared.Behind.{Behind}
 use Rattle.relay.specs.declared.Behind.TheVariants.{Equal, ByLast, By, Ahead}
 
--- the last step can be undone where the spare set is one step behind
+-- the last step can be undone if the spare set is one step behind
 abbrev pub is_undoable : Behind → Bool
 is_undoable Equal = false
 is_undoable (ByLast gtid) = true

@@ -2,10 +2,9 @@
 //!
 //! What a contract sees: an `OwnJournal` is its journal: the purged set, and the entries.
 //!
-//! `executed` is the purged set with the GTIDs of the entries (`gtid_executed`), and a purge never changes it; a replica has no second
-//! one. `append` adds an entry or leaves all as it was, and `take_back` undoes the last append and allocates nothing, so that a commit
-//! whose rows are refused can be undone. `purge` moves entries into the purged set (`gtid_purged`) and is refused exactly where there are
-//! fewer.
+//! `executed` is the purged set with the GTIDs of the entries (`gtid_executed`), and a purge never changes it; a replica has no second one.
+//! `append` adds an entry or leaves all as it was, and `take_back` undoes the last append and allocates nothing, so that a commit whose
+//! rows are refused can be undone. `purge` moves entries into the purged set (`gtid_purged`) and is refused if and only if there are fewer.
 //!
 //! How it is kept: the executed set is kept twice, one copy an entry behind the other, so that an append can be taken back without
 //! memory and no commit copies a set.
@@ -221,7 +220,7 @@ impl OwnJournal {
         &self.journal
     }
 
-    /// Puts an entry at the end. It can be taken back until something else changes.
+    /// Appends an entry. It can be taken back until something else changes.
     pub fn append(&mut self, alloc: Global, entry: Entry) -> Result<(), SetFault>
         requires new { set.contains (whole self.old.journal) entry.gtid ≡ false }
         requires writable { is_writable entry ≡ true }
@@ -245,7 +244,7 @@ impl OwnJournal {
         }
     }
 
-    /// Undoes the last append. Does not allocate.
+    /// Undoes the last append. It does not allocate.
     pub fn take_back(&mut self)
         requires { self.old.undoable ≡ true }
         ensures { self.new.journal ≡ without_last self.old.journal }

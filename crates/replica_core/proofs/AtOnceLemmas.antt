@@ -10,11 +10,12 @@ use Rattle.std.specs.Cmp.{nat_cmp_total}
 use Rattle.std.specs.Ordering.{nat_cmp}
 use Rattle.std.proofs.lemmas.List.{length-set, map-append, map-set, length-map}
 use Rattle.std.proofs.lemmas.List.Elements.{All-cons, All-nil}
-use Rattle.std.proofs.lemmas.Option.{slice_get_within, slice_get-get_or, get_or_from_slice_get, slice_get-map}
-use Rattle.std.proofs.Math.ListN.{get_or-append}
+use Rattle.std.proofs.lemmas.Option.{slice_get_within, slice_get-get_or, slice_get-map}
+use Rattle.lemmas.proofs.Tests.{and_second}
+use Rattle.lemmas.proofs.SameGtid.{same_itself}
+use Rattle.lemmas.proofs.Lists.{get_append_within, get_push}
 use Rattle.gtid_text.specs.declared.Gtid.{Gtid}
 use Rattle.gtid_text.specs.Gtids.{same_gtid}
-use Rattle.gtid_text.proofs.SameGtid.{same_itself}
 use Rattle.gtid_set.specs.declared.fault.SetFault.{SetFault}
 use Rattle.ownership.specs.Slots.{taken_from}
 use Rattle.rows.specs.declared.change.RowFault.{RowFault}
@@ -42,14 +43,8 @@ use Rattle.replica_core.proofs.TakeLemmas.{commit_is}
 use Rattle.replica_core.proofs.MoveLemmas.{IsFront, took, none_before, any_way, put_there, at_rest, settle_gtid}
 use Rattle.gtid_set.proofs.SetLemmas.{has_itself}
 use Rattle.gtid_set.proofs.SetSources.{first_of_and}
-use Rattle.rows.proofs.Patching.{and_second}
-use Rattle.rows.proofs.Lists.{get_push}
 
 -- ---- lists
-
-in_front : {X : Type 0} (xs ys : List X) (i : ℕ) (x : X) → i < length xs → slice_get (xs ++ ys) i ≡ Some x → slice_get xs i ≡ Some x
-in_front xs ys i x within at =
-    slice_get-get_or xs i x within ∙ ap (λ y. Some y) (sym (get_or-append xs ys x i within) ∙ get_or_from_slice_get (xs ++ ys) i x x at)
 
 set_at : {X : Type 0} (xs : List X) (i : ℕ) (y x : X) → slice_get xs i ≡ Some x → slice_get (slice_set xs i y) i ≡ Some y
 set_at xs i y x at =
@@ -127,7 +122,7 @@ module _ (r : Replica) (seat c p : ℕ) (e : Entry) (may : IsReadyAtOnce r seat 
   is_front q x less at =
       let last = may.next.last in
       let within : q < length may.channel.received = omega (arith, less, last) in
-      let was = in_front may.channel.received (entry_of e ∷ []) q x within at in
+      let was = get_append_within may.channel.received (entry_of e ∷ []) q x within at in
       let entries = found (λ (x : ChannelValue). All (IsKept r.site.schema r.state.executed) x.received) r.state.channels c may.channel kept may.at in
       let keeps = found (IsKept r.site.schema r.state.executed) may.channel.received q x entries was in
       let gone = found (λ (y : Received). is_none y.txn ≡ true) may.channel.received q x (all_pass (λ (y : Received). is_none y.txn) may.channel.received may.next.settled) was in

@@ -4,10 +4,11 @@ use Rattle.std.specs.Prelude.{Option, Some, None, option_map, slice_get}
 use Rattle.std.specs.FinSet as set
 use Rattle.std.proofs.lemmas.Bool.{cases_eq}
 use Rattle.std.proofs.lemmas.Option.{slice_get_within}
+use Rattle.lemmas.proofs.Options.{none_where}
 use Rattle.apply_channel.specs.Channels.{ChannelValue, Received}
 use Rattle.replica_core.specs.State.{State}
 use Rattle.replica_core.specs.Draining.{places, IsDoneBelow, IsDone, IsSettledAt, AreStoppedOrDone, Follows, SameGtids}
-use Rattle.replica_core.proofs.LookLemmas.{ends_by, none_by, one_value}
+use Rattle.replica_core.proofs.LookLemmas.{ends_by, one_value}
 use Rattle.replica_core.proofs.MoveLemmas.{same_channels}
 
 pub follows_self : (s : State) → Follows s s
@@ -101,6 +102,6 @@ pub counted : (s : State) (c n : ℕ) → Some n ≡ places s c → (one : Chann
 counted s c n is one at = sym (one_value n (length one.received) (is ∙ ap (option_map (λ (channel : ChannelValue). length channel.received)) at))
 
 pub uncounted : (s : State) (c : ℕ) → None ≡ places s c → slice_get s.channels c ≡ None
-uncounted s c is = none_by (slice_get s.channels c) (λ one at.
+uncounted s c is = none_where (slice_get s.channels c) (λ one at.
     let no : ◌≡◌ {A = Option ℕ} None (Some (length one.received)) = is ∙ ap (option_map (λ (channel : ChannelValue). length channel.received)) at in
     cc no)

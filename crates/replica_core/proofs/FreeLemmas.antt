@@ -6,6 +6,8 @@ use Rattle.std.specs.Cmp.{nat_cmp_total, unsigned_tied}
 use Rattle.std.specs.FinMap as finmap
 use Rattle.std.proofs.lemmas.Bool.{cases_eq, cond_both, or_parts}
 use Rattle.std.proofs.lemmas.Bool.Decides.{nat_tests}
+use Rattle.lemmas.proofs.Numbers.{same_number, equal_numbers}
+use Rattle.lemmas.proofs.Options.{none_where, on_option}
 use Rattle.gtid_text.specs.declared.Gtid.{Gtid}
 use Rattle.rows.specs.declared.change.Transaction.{Transaction}
 use Rattle.apply_channel.specs.Channels.{ChannelValue, Received}
@@ -15,9 +17,6 @@ use Rattle.replica_core.specs.State.{State, Seats, entry_at, owned_by, owned, wi
 use Rattle.replica_core.specs.Machine.{Step, is_seat, Held, held, held_at, held_of, rollback}
 use Rattle.replica_core.specs.Seated.{AreSeated}
 use Rattle.replica_core.specs.Draining.{NothingIsOwned}
-use Rattle.replica_core.proofs.LookLemmas.{none_by, same_number}
-use Rattle.rows.proofs.Lists.{on_option}
-use Rattle.ownership.proofs.OwnerLemmas.{equal_numbers}
 
 -- ---- what a busy seat holds
 
@@ -43,7 +42,7 @@ held_busy s seat spot seated at =
 
 -- a seat that holds nothing has taken no place
 idle : (s : State) (seat : ℕ) → AreSeated s.channels s.seats → held s seat ≡ None → finmap.get s.seats seat ≡ None
-idle s seat seated none = none_by (finmap.get s.seats seat) (λ spot at. let w = held_busy s seat spot seated at in let no : ◌≡◌ {A = Option Held} None (Some w.0) = sym none ∙ w.1 in cc no)
+idle s seat seated none = none_where (finmap.get s.seats seat) (λ spot at. let w = held_busy s seat spot seated at in let no : ◌≡◌ {A = Option Held} None (Some w.0) = sym none ∙ w.1 in cc no)
 
 pub entry_with : (o : Option Received) → is_some (option_and_then (λ (e : Received). e.txn) o) ≡ true → (e : Received) × (o ≡ Some e)
 entry_with None h = absurd (cc h)
@@ -51,7 +50,7 @@ entry_with (Some e) h = (e, refl)
 
 -- a seat that owns nothing has taken no place
 unowned : (s : State) (seat : ℕ) → AreSeated s.channels s.seats → owned_by s seat ≡ None → finmap.get s.seats seat ≡ None
-unowned s seat seated none = none_by (finmap.get s.seats seat) (λ spot at.
+unowned s seat seated none = none_where (finmap.get s.seats seat) (λ spot at.
     let w = entry_with (entry_at s spot) (seated.busy seat spot at) in
     let owns : owned_by s seat ≡ Some w.0.gtid = ap (λ (o : Option Spot). option_map (λ (e : Received). e.gtid) (option_and_then (entry_at s) o)) at ∙ ap (option_map (λ (e : Received). e.gtid)) w.1 in
     let no : ◌≡◌ {A = Option Gtid} None (Some w.0.gtid) = sym none ∙ owns in cc no)
@@ -120,7 +119,7 @@ freed s t r seat low high seated made =
 
 -- a seat that is none of the 64 has taken no place
 pub none_beyond : (s : State) → AreSeated s.channels s.seats → ((seat : ℕ) → 1 ≤ seat → seat < 65 → finmap.get s.seats seat ≡ None) → NothingIsOwned s
-none_beyond s seated each = λ seat. none_by (finmap.get s.seats seat) (λ spot at. by seat spot at (seated.number seat spot at))
+none_beyond s seated each = λ seat. none_where (finmap.get s.seats seat) (λ spot at. by seat spot at (seated.number seat spot at))
   where
     range : (seat : ℕ) → is_seat seat ≡ true → (1 ≤ seat) × (seat < 65)
     range seat is = (grind (arith, nat_tests, is), grind (arith, nat_tests, is))

@@ -6,9 +6,10 @@ use Rattle.std.specs.Option.{option_map_or}
 use Rattle.std.specs.FinSet as set
 use Rattle.std.proofs.lemmas.Option.{get_or_from_slice_get, slice_get_cases}
 use Rattle.std.proofs.lemmas.List.Elements.{All-take, All-map, All-set, All-append, All-cons, All-nil}
+use Rattle.lemmas.proofs.SameGtid.{gtid_total}
 use Rattle.rows.specs.declared.schema.Table.{Table}
 use Rattle.rows.specs.declared.change.Transaction.{Transaction}
-use Rattle.rows.specs.WriteSet.{shares_key}
+use Rattle.rows.specs.Conflicts.{conflicts}
 use Rattle.journal.specs.declared.Entry.{Entry}
 use Rattle.journal.specs.Writing.{is_number}
 use Rattle.gtid_text.specs.declared.Gtid.{Gtid}
@@ -19,7 +20,6 @@ use Rattle.apply_channel.specs.Channels.{ChannelValue, Received, blocker, first_
 use Rattle.replica_core.specs.State.{State}
 use Rattle.replica_core.specs.Machine.{is_in_the_way, is_open, blocking, open_before, change_at}
 use Rattle.replica_core.specs.Kept.{FitsIf, IsKept, AreKept}
-use Rattle.gtid_text.proofs.SameGtid.{gtid_total}
 
 prefix_alike : {X : Type 0} (p q : X → Bool) (xs : List X) → All (λ x. p x ≡ q x) xs → prefix_len (λ x. not (p x)) xs ≡ prefix_len (λ x. not (q x)) xs
 prefix_alike p q [] all = refl
@@ -35,7 +35,7 @@ both f None = refl
 both f (Some t) = refl
 
 way : (schema : List Table) (s : State) (t : Transaction) (e : Received) → IsKept schema s.executed e → holds_back schema t e ≡ is_in_the_way schema s t e
-way schema s t e kept = both (λ u. shares_key schema u t) e.txn ∙ ap (λ b. b && option_map_or (λ u. shares_key schema u t) e.txn false) kept.waits
+way schema s t e kept = both (λ u. conflicts schema u t) e.txn ∙ ap (λ b. b && option_map_or (λ u. conflicts schema u t) e.txn false) kept.waits
 
 joined : {T : Type 0} (f g : T → Option ℕ) (o : Option T) → ((t : T) → f t ≡ g t) → option_and_then f o ≡ option_map_or g o None
 joined f g None h = refl

@@ -5,13 +5,13 @@ use Rattle.std.specs.List.{list_all, list_any}
 use Rattle.std.specs.Option.{option_map_or}
 use Rattle.std.proofs.lemmas.List.Elements.{All-map, All-append, All-cons, All-nil}
 use Rattle.std.proofs.lemmas.Option.{slice_get-map}
+use Rattle.lemmas.proofs.Tests.{and_second}
 use Rattle.rows.specs.declared.schema.Table.{Table}
 use Rattle.gtid_text.specs.declared.Gtid.{Gtid}
 use Rattle.gtid_text.specs.Gtids.{same_gtid}
 use Rattle.gtid_set.specs.Sets.{Gtids}
 use Rattle.gtid_set.proofs.SetSources.{first_of_and}
 use Rattle.rows.specs.declared.change.Transaction.{Transaction}
-use Rattle.rows.proofs.Patching.{and_second}
 use Rattle.journal.specs.declared.Entry.{Entry}
 use Rattle.apply_channel.specs.Channels.{Keyed, ChannelValue, Received, are_settled, settle, settle_channel, same_name, with_stopped, with_asked, with_received, with_entry, received_as, is_full}
 use Rattle.replica_core.specs.Kept.{AreOf}

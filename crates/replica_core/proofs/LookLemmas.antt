@@ -5,18 +5,10 @@ use Rattle.std.specs.List.{prefix_len}
 use Rattle.std.proofs.lemmas.Bool.Decides.{nat_tests}
 use Rattle.std.proofs.lemmas.List.{length-set, get_or-take, length-take}
 use Rattle.std.proofs.lemmas.Option.{slice_get_within, slice_get-get_or, get_or_from_slice_get, slice_get_cases}
-use Rattle.rows.proofs.Lists.{not_less}
-use Rattle.ownership.proofs.OwnerLemmas.{equal_numbers}
+use Rattle.lemmas.proofs.Numbers.{not_less, equal_numbers}
 
 pub one_value : {A : Type 0} (x y : A) → ◌≡◌ {A = Option A} (Some x) (Some y) → x ≡ y
 one_value x y e = cc
-
-pub none_by : {A : Type 0} (o : Option A) → ((x : A) → o ≡ Some x → ⊥) → o ≡ None
-none_by None h = refl
-none_by (Some x) h = absurd (h x refl)
-
-pub same_number : (a : ℕ) → (a == a) ≡ true
-same_number a = grind (arith, nat_tests)
 
 -- ---- lists
 

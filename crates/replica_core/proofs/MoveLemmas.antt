@@ -5,16 +5,18 @@ use Rattle.std.specs.Option.{option_map_or}
 use Rattle.std.specs.Cmp.{nat_cmp_total, unsigned_tied}
 use Rattle.std.specs.FinSet as set
 use Rattle.std.specs.FinMap as finmap
+use Rattle.lemmas.proofs.Lists.{get_map_cases}
+use Rattle.lemmas.proofs.Numbers.{same_number, equal_numbers}
+use Rattle.lemmas.proofs.SameGtid.{gtid_total}
 use Rattle.gtid_text.specs.declared.Gtid.{Gtid}
 use Rattle.gtid_text.specs.Gtids.{same_gtid}
-use Rattle.gtid_text.proofs.SameGtid.{gtid_total}
 use Rattle.gtid_set.specs.Sets.{Gtids}
 use Rattle.gtid_set.proofs.SetLemmas.{gtid_tied, has_itself}
 use Rattle.rows.specs.declared.schema.Table.{Table}
 use Rattle.rows.specs.declared.change.RowFault.{RowFault}
 use Rattle.rows.specs.declared.change.Transaction.{Transaction}
 use Rattle.rows.specs.Apply.{Rows, apply}
-use Rattle.rows.specs.WriteSet.{shares_key}
+use Rattle.rows.specs.Conflicts.{conflicts}
 use Rattle.apply_channel.specs.Channels.{ChannelValue, Received, settle, settle_channel, with_stopped}
 use Rattle.replica_core.specs.declared.event.Spot.{Spot}
 use Rattle.replica_core.specs.declared.event.Reply.{Reply}
@@ -26,10 +28,8 @@ use Rattle.replica_core.specs.Machine.{Step, is_seat, is_open, is_in_the_way, bl
 use Rattle.replica_core.proofs.KeptLemmas.{found}
 use Rattle.replica_core.proofs.TakeLemmas.{commit_is}
 use Rattle.replica_core.specs.Draining.{NothingIsOwned, IsDoneBelow, IsWaiting, IsSettledAt, Follows, SameGtids, SameChannels}
-use Rattle.replica_core.proofs.LookLemmas.{one_value, same_number, found_in_set, set_here, position_none, find_none, all_before}
+use Rattle.replica_core.proofs.LookLemmas.{one_value, found_in_set, set_here, position_none, find_none, all_before}
 use Rattle.replica_core.proofs.FreeLemmas.{cleared, cleared_itself}
-use Rattle.rows.proofs.Lists.{get_map_cases}
-use Rattle.ownership.proofs.OwnerLemmas.{equal_numbers}
 
 -- all earlier places of a channel are executed
 abbrev pub IsFront : State → ChannelValue → ℕ → Type 0
@@ -44,7 +44,7 @@ pub none_before : (s : State) (channel : ChannelValue) (n : ℕ) → IsFront s c
 none_before s channel n front = position_none (is_open s) (take n channel.received) (nothing_open s channel n front)
 
 not_open : (schema : List Table) (s : State) (t : Transaction) (e : Received) → is_open s e ≡ false → is_in_the_way schema s t e ≡ false
-not_open schema s t e shut = ap (λ b. b && option_map_or (λ u. shares_key schema u t) e.txn false) shut
+not_open schema s t e shut = ap (λ b. b && option_map_or (λ u. conflicts schema u t) e.txn false) shut
 
 none_in_the_way : (schema : List Table) (s : State) (channel : ChannelValue) (n : ℕ) (t : Transaction) → IsFront s channel n → blocking schema s channel n t ≡ None
 none_in_the_way schema s channel n t front =

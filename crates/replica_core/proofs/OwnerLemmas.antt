@@ -4,9 +4,9 @@ use Rattle.std.specs.Prelude.{Option, Some, None, find, option_map, option_and_t
 use Rattle.std.specs.Option.{option_map_or}
 use Rattle.std.specs.List.{range_with_len}
 use Rattle.std.proofs.lemmas.Bool.Decides.{nat_tests}
+use Rattle.lemmas.proofs.SameGtid.{same_itself}
 use Rattle.gtid_text.specs.declared.Gtid.{Gtid}
 use Rattle.gtid_text.specs.Gtids.{same_gtid}
-use Rattle.gtid_text.proofs.SameGtid.{same_itself}
 use Rattle.apply_channel.specs.Channels.{Received}
 use Rattle.replica_core.specs.declared.event.Spot.{Spot}
 use Rattle.replica_core.specs.State.{State, entry_at, owns, owner, seat_numbers}

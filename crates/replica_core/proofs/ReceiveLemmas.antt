@@ -22,7 +22,7 @@ use Rattle.replica_core.proofs.OwnerLemmas.{unowned_is}
 use Rattle.replica_core.proofs.KeptLemmas.{kept_entry, kept_received}
 use Rattle.replica_core.proofs.SeatLemmas.{seated_changed, keeps_front}
 use Rattle.std.proofs.lemmas.Bool.{false_from_ne_true}
-use Rattle.rows.proofs.Lists.{none_if}
+use Rattle.lemmas.proofs.Options.{none_if}
 
 -- ---- Receive
 

@@ -8,17 +8,17 @@ use Rattle.std.specs.FinMap as finmap
 use Rattle.std.proofs.lemmas.Bool.Decides.{nat_tests}
 use Rattle.std.proofs.lemmas.List.{length-set}
 use Rattle.std.proofs.lemmas.Option.{slice_get_within, slice_get-get_or, get_or_from_slice_get, slice_get-map}
+use Rattle.lemmas.proofs.Numbers.{equal_numbers}
+use Rattle.lemmas.proofs.Lists.{get_append_left}
+use Rattle.lemmas.proofs.SameGtid.{same_is_equal}
 use Rattle.gtid_text.specs.declared.Gtid.{Gtid}
 use Rattle.gtid_text.specs.Gtids.{same_gtid}
-use Rattle.gtid_text.proofs.SameGtid.{same_is_equal}
 use Rattle.apply_channel.specs.Channels.{ChannelValue, Received, settle, settle_channel}
 use Rattle.replica_core.specs.declared.event.Spot.{Spot}
 use Rattle.replica_core.specs.State.{Seats}
 use Rattle.replica_core.specs.Machine.{is_seat, change_at}
 use Rattle.replica_core.specs.Seated.{entry_of, txn_of, HasEntry, AreSeated, IsUnowned, freed_of}
 use Rattle.replica_core.proofs.LookLemmas.{one_value}
-use Rattle.rows.proofs.Lists.{get_append_left}
-use Rattle.ownership.proofs.OwnerLemmas.{equal_numbers}
 use Rattle.replica_core.proofs.FreeLemmas.{entry_with}
 
 -- ---- other channels, the same seats

@@ -28,7 +28,7 @@ pub record IsOnlyExecuted (site : Site) (e : Entry) (s t : State) : Type 0 where
   pub applied : apply site.schema e.txn s.rows ≡ Ok rows
   pub now : t ≡ execute s e.gtid e.txn rows
 
--- where a failed allocation leaves it: as it was, or received and taken, or executed without being received
+-- the states in which a failed allocation leaves it: as it was, or received and taken, or executed without being received
 abbrev pub IsLeft : Site → ℕ → ℕ → ℕ → Entry → State → State → Type 0
 IsLeft site seat c p e s t = (t ≡ s) ⊎ ((t ≡ received_and_taken site seat c p e s) ⊎ IsOnlyExecuted site e s t)
 
@@ -38,7 +38,7 @@ IsFaultAtOnce f site seat c p e s =
     IsFault (IsFaultIn f (received_set c e s)) (receive site c e s)
     ⊎ IsFault (IsFaultIn f (committed_set seat (received_and_taken site seat c p e s))) (commit site seat (received_and_taken site seat c p e s))
 
--- memory was refused only where the set that one of the two makes has not too many sources
+-- out of memory only if the set that one of the two makes has not too many sources
 abbrev pub HasRoomAtOnce : SetFault → Site → ℕ → ℕ → ℕ → Entry → State → Type 0
 HasRoomAtOnce f site seat c p e s = HasRoomFor f (received_set c e s) ⊎ HasRoomFor f (committed_set seat (received_and_taken site seat c p e s))
 

@@ -46,7 +46,7 @@ Takes r seat channel place g =
 abbrev pub Refuses : (State → Step) → Replica → Reply → Type 0
 Refuses event r reply = event r.state ≡ (reply, r.state)
 
--- a GTID is at a place of a channel, with its transaction where it is not executed
+-- a GTID is at a place of a channel, with its transaction if it is not executed
 abbrev pub IsEntryAt : Replica → ℕ → ℕ → Gtid → Option Transaction → Type 0
 IsEntryAt r channel place g t = entry_at r.state (record { channel = channel; place = place }) ≡ Some (record { gtid = g; txn = t })
 

@@ -6,7 +6,7 @@ use Rattle.gtid_text.specs.declared.Gtid.{Gtid}
 use Rattle.apply_channel.specs.Channels.{ChannelValue, Received}
 use Rattle.replica_core.specs.State.{State}
 
--- how many places a channel has, where there is that channel
+-- how many places a channel has, if there is that channel
 abbrev pub places : State → ℕ → Option ℕ
 places s c = option_map (λ (channel : ChannelValue). length channel.received) (slice_get s.channels c)
 

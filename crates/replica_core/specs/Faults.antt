@@ -50,12 +50,12 @@ set_made_by site s _ = None
 
 -- ---- faults
 
--- memory was refused only where the set, if one is made, has not too many sources
+-- out of memory only if the set, if one is made, has not too many sources
 abbrev pub HasRoomFor : SetFault → Option Gtids → Type 0
 HasRoomFor Memory (Some made) = source_count made ≤ most_sources
 HasRoomFor _ _ = Unit {0}
 
--- memory was refused, or the set, if one is made, would have too many sources or intervals
+-- out of memory, or the set, if one is made, would have too many sources or intervals
 abbrev pub IsFaultIn : SetFault → Option Gtids → Type 0
 IsFaultIn f None = f ≡ Memory
 IsFaultIn f (Some made) = IsFaultOf f made
@@ -114,7 +114,7 @@ pub record IsFault (Cause : Type 0) (answer : Step) : Type 0 where
 abbrev pub IsStepFault : SetFault → Site → State → Event → Type 0
 IsStepFault f site s e = IsFault (IsCause f site s e) (step site s e)
 
--- memory was refused only where the set that the next event makes, if there is one, has not too many sources
+-- out of memory only if the set that the next event makes, if there is one, has not too many sources
 abbrev pub HasRoomAt : SetFault → Site → State → Option Event → Type 0
 HasRoomAt f site s None = Unit {0}
 HasRoomAt f site s (Some e) = HasRoomFor f (set_made_by site s e)

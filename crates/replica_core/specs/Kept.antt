@@ -13,7 +13,7 @@ abbrev pub FitsIf : List Table → Option Transaction → Type 0
 FitsIf schema None = Unit {0}
 FitsIf schema (Some txn) = Fits schema txn
 
--- A received entry has its transaction exactly where its GTID is not executed. The schema takes it, and its number is in range.
+-- A received entry has its transaction if and only if its GTID is not executed. The schema takes it, and its number is in range.
 pub record IsKept (schema : List Table) (executed : Gtids) (e : Received) : Type 0 where
   pub waits : is_some e.txn ≡ not (set.contains executed e.gtid)
   pub fits : FitsIf schema e.txn

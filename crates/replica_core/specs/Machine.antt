@@ -11,7 +11,7 @@ use Rattle.rows.specs.declared.change.Transaction.{Transaction}
 use Rattle.rows.specs.declared.schema.Table.{Table}
 use Rattle.rows.specs.Apply.{Rows, apply}
 use Rattle.rows.specs.Fits.{misfit}
-use Rattle.rows.specs.WriteSet.{shares_key}
+use Rattle.rows.specs.Conflicts.{conflicts}
 use Rattle.journal.specs.declared.Entry.{Entry}
 use Rattle.journal.specs.Journals.{previous_after_purge}
 use Rattle.journal.specs.Writing.{is_number}
@@ -42,9 +42,9 @@ ask s channel = set.union s.executed (received_gtids channel.received)
 abbrev pub is_open : State → Received → Bool
 is_open s e = not (set.contains s.executed e.gtid)
 
--- an earlier entry whose GTID is not executed, and that shares a key with a transaction
+-- an earlier entry whose GTID is not executed, and that conflicts with a transaction
 abbrev pub is_in_the_way : List Table → State → Transaction → Received → Bool
-is_in_the_way schema s t e = is_open s e && option_map_or (λ u. shares_key schema u t) e.txn false
+is_in_the_way schema s t e = is_open s e && option_map_or (λ u. conflicts schema u t) e.txn false
 
 -- the least earlier place that blocks a place
 abbrev pub blocking : List Table → State → ChannelValue → ℕ → Transaction → Option ℕ
@@ -54,7 +54,7 @@ blocking schema s channel place t = position (is_in_the_way schema s t) (take pl
 abbrev pub open_before : State → ChannelValue → ℕ → Option ℕ
 open_before s channel place = position (is_open s) (take place channel.received)
 
--- an element changed, where it is there
+-- an element changed, if it is there
 abbrev pub change_at : {X : Type 0} → ℕ → (X → X) → List X → List X
 change_at i f xs = option_map_or (λ x. slice_set xs i (f x)) (slice_get xs i) xs
 
@@ -76,7 +76,7 @@ execute s g t rows = record s {
   journal = with_last (record { gtid = g; txn = t }) s.journal;
 }
 
--- where the schema takes a transaction, the rest decides; else the reply names the first change that it does not take
+-- if the schema takes a transaction, the rest decides; else the reply names the first change that it does not take
 abbrev pub if_fits : Site → Transaction → Step → State → Step
 if_fits site t next s = option_map_or (λ fault. (NotInSchema fault, s)) (misfit site.schema t) next
 
@@ -208,7 +208,7 @@ step site s event.Look = look s
 
 -- ---- runs
 
--- where a run begins: with this executed set, which is purged, these rows and nothing else
+-- the state in which a run begins: with this executed set, which is purged, these rows and nothing else
 abbrev pub opening : Gtids → Rows → State
 opening executed rows = record { executed = executed; rows = rows; seats = finmap.empty; channels = []; journal = record { previous = executed; entries = [] } }
 

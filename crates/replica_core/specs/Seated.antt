@@ -12,7 +12,7 @@ use Rattle.replica_core.specs.Machine.{is_seat}
 abbrev pub entry_of : List ChannelValue → Spot → Option Received
 entry_of channels spot = option_and_then (λ channel. slice_get channel.received spot.place) (slice_get channels spot.channel)
 
--- its transaction, where its GTID is not executed
+-- its transaction, if its GTID is not executed
 abbrev pub txn_of : List ChannelValue → Spot → Option Transaction
 txn_of channels spot = option_and_then (λ e. e.txn) (entry_of channels spot)
 

@@ -20,7 +20,7 @@ use journal::Entry;
 use rows::{PrepareFault, Transaction};
 use std::alloc::Global;
 
-/// So many channels are asked faster than 64 seats. Our own rule.
+/// Up to this many channels are asked faster than 64 seats. Our own rule.
 const FEW: usize = 16;
 
 /// Whether no seat has a place.
@@ -43,7 +43,8 @@ fn is_next(channel: &Channel, place: usize) -> bool
 }
 
 impl Core {
-    /// Whether no seat has a place. Of few channels it is asked first whether they have executed all: then no seat has one.
+    /// Whether no seat has a place. If the channels are few, they are asked first whether they have executed everything: then no seat has a
+    /// place.
     fn is_idle(&self) -> bool
         ensures { result ≡ true → NothingIsOwned self.now.state }
     {
@@ -77,8 +78,7 @@ impl Core {
         self.executed().has_room_for(&entry.gtid)
     }
 
-    /// Executes an entry, where no seat is freed. The result is false where its transaction does not apply, and then nothing
-    /// has changed.
+    /// Executes an entry and frees no seat. The result is false if its transaction does not apply, and then nothing has changed.
     fn execute_now(
         &mut self,
         alloc: Global,
@@ -135,9 +135,8 @@ impl Core {
         }
     }
 
-    /// Executes an entry that needs to wait for nothing and then lets its channel receive it at this place, which keeps
-    /// neither its keys nor its transaction. The result is false where it has to wait, or does not apply, and then nothing
-    /// is done.
+    /// Executes an entry that needs to wait for nothing and then lets its channel receive it at this place, which keeps neither its keys
+    /// nor its transaction. The result is false if it has to wait or does not apply, and then nothing is done.
     fn commit_at_once(
         &mut self,
         alloc: Global,
@@ -191,9 +190,9 @@ impl Core {
         Ok(reply)
     }
 
-    /// The events Receive, Take and Commit in turn: a channel receives an entry, and a seat takes this
-    /// place of it and commits what it has. The schema takes the transaction, which is not tested again. The result is the reply to the Receive. Where the entry waits
-    /// for nothing, neither its keys nor its transaction are kept in the channel.
+    /// The events Receive, Take and Commit in turn: a channel receives an entry, and a seat takes this place of it and commits what it has.
+    /// The schema takes the transaction, which is not tested again. The result is the reply to the Receive. If the entry waits for nothing,
+    /// neither its keys nor its transaction are kept in the channel.
     ///
     /// The error is one of the Receive or of the Commit. After it nothing has changed, or the first two
     /// events were made, or the entry is executed, and the channel has not received it.

@@ -41,7 +41,7 @@ impl Model for Channels {
 fn settle_each(channels: &mut [Channel], gtid: &Gtid)
     ensures { channels.new ≡ map (keyed_settled gtid.now) channels.old }
 {
-    // (where all is executed, nothing changes)
+    // (if all is executed, nothing changes)
     if all_settled(channels) {
         return;
     }
@@ -141,7 +141,7 @@ impl Channels {
         any_named(&self.list, name)
     }
 
-    /// Opens one more.
+    /// Appends a channel with nothing received.
     pub(crate) fn push(
         &mut self,
         alloc: Global,
@@ -159,7 +159,7 @@ impl Channels {
         Ok(())
     }
 
-    /// A GTID is executed now.
+    /// Marks a GTID as executed on all channels.
     pub(crate) fn mark_executed(&mut self, gtid: &Gtid)
         ensures { self.new ≡ with_channels (map (settle_channel gtid.now) self.old.list) self.old }
     {
@@ -173,7 +173,7 @@ impl Channels {
         stop_one(&mut self.list, channel, flag);
     }
 
-    /// Keeps the set with which a channel asks.
+    /// Stores the set with which a channel asks.
     pub(crate) fn set_ask(&mut self, channel: usize, asked: GtidSet)
         ensures { self.new ≡ with_channels (change_at channel (with_asked asked) self.old.list) self.old }
     {

@@ -21,14 +21,14 @@ use write_set::Patch;
 
 /// What a Commit commits, made before anything changes.
 #[derive(Drop)]
-struct Ready {
+struct ReadyCommit {
     spot: Spot,
     entry: Entry,
     txn: Transaction,
 }
 
 impl Core {
-    /// The least earlier place that is not executed, where the channel preserves its order.
+    /// The least earlier place that is not executed, if the channel preserves its order.
     fn earlier_pending(&self, channel: &Channel, place: usize) -> Option<usize>
         requires kept { All (IsKept self.now.site.schema self.now.state.executed) channel.now.channel.received }
         requires there { place < length channel.now.channel.received }
@@ -42,7 +42,7 @@ impl Core {
     }
 
     /// What a Commit commits, or the reply that refuses it.
-    fn may_commit(&self, seat: u8) -> Result<Result<Ready, Reply>, SetFault>
+    fn may_commit(&self, seat: u8) -> Result<Result<ReadyCommit, Reply>, SetFault>
         ensures ok { IfOk result (λ r. MatchResult r (IsReady self.now seat) (Refuses (commit self.now.site seat) self.now)) }
         ensures fault { IfErr result (λ f. IsFault (IsFaultIn f (committed_set seat self.now.state)) (commit self.now.site seat self.now.state)) }
         ensures room { IfErr result (λ f. HasRoomFor f (committed_set seat self.now.state)) }
@@ -73,7 +73,7 @@ impl Core {
             txn: txn.clone()?,
         };
         let txn = txn.clone()?;
-        Ok(Ok(Ready { spot, entry, txn }))
+        Ok(Ok(ReadyCommit { spot, entry, txn }))
     }
 
     /// Executes an entry and frees the seat that had it; or the result is the reason why its transaction does not
@@ -118,7 +118,7 @@ impl Core {
         &mut self,
         alloc: Global,
         seat: u8,
-        ready: Ready,
+        ready: ReadyCommit,
         patch: Option<Patch>,
     ) -> Result<Reply, SetFault>
         requires { IsReady self.old seat ready }
@@ -128,7 +128,7 @@ impl Core {
         ensures fault { IfErr result (λ f. IsFault (IsFaultIn f (committed_set seat self.old.state)) (commit self.old.site seat self.old.state)) }
         ensures room { IfErr result (λ f. HasRoomFor f (committed_set seat self.old.state)) }
     {
-        let Ready { spot, entry, txn } = ready;
+        let ReadyCommit { spot, entry, txn } = ready;
         let gtid = entry.gtid;
         match self.execute(alloc, Some(seat), entry, &txn, patch) {
             Ok(Ok(())) => return Ok(Reply::Committed(gtid)),
@@ -179,7 +179,7 @@ impl Core {
         if txn.is_some() { Some(gtid) } else { None }
     }
 
-    /// The event Rollback. Does not allocate.
+    /// The event Rollback. It does not allocate.
     pub(crate) fn rollback(&mut self, seat: u8) -> Reply
         ensures made { (result, self.new.state) ≡ rollback seat self.old.state }
         ensures site { self.new.site ≡ self.old.site }

@@ -16,8 +16,8 @@ use journal::Entry;
 use rows::{Name, fits};
 use std::alloc::Global;
 
-/// The set with which a channel asks where these are executed: with what it has received. A channel that has received nothing adds nothing, and takes
-/// a copy, with no pass over the intervals.
+/// The set with which a channel asks when these GTIDs are executed: their union with what it has received. If it has received nothing, the
+/// set is copied, with no pass over the intervals.
 pub(crate) fn asked_with(
     alloc: Global,
     executed: &GtidSet,
@@ -132,7 +132,7 @@ impl Core {
         }
     }
 
-    /// The event Restart. Does not allocate.
+    /// The event Restart. It does not allocate.
     pub(crate) fn restart(&mut self, channel: usize) -> Reply
         ensures made { (result, self.new.state) ≡ restart channel self.old.state }
         ensures site { self.new.site ≡ self.old.site }

@@ -75,7 +75,7 @@ pub(crate) fn is_seat(seat: u8) -> bool
     1 <= seat && seat <= 64
 }
 
-/// Frees a seat, where one is named.
+/// Frees a seat, if one is named.
 pub(crate) fn free(seats: &mut [Option<Spot>; 64], freed: Option<u8>)
     requires { IsFreeable freed }
     ensures { seats_of seats.new ≡ freed_of freed (seats_of seats.old) }

@@ -16,7 +16,7 @@ use rows::{InstallOutcome, PrepareFault, Rows, Transaction};
 use std::alloc::{AllocError, Global};
 use write_set::{Footprint, Patch, install, list_keys};
 
-/// Installs a patch, where it is of this transaction and still valid; whether it did.
+/// Installs a patch if it is of this transaction and still valid; returns whether it did.
 fn install_of(rows: &mut Rows, txn: &Transaction, patch: Patch) -> Result<bool, AllocError>
     ensures installed { result ≡ Ok true → apply rows.old.schema txn.now rows.old.rows ≡ Ok rows.new.rows }
     ensures same { rows.new.schema ≡ rows.old.schema }
@@ -33,7 +33,7 @@ fn install_of(rows: &mut Rows, txn: &Transaction, patch: Patch) -> Result<bool, 
     }
 }
 
-/// Applies a transaction that the schema takes: by a patch, where there is one that is of it and still valid.
+/// Applies a transaction that the schema takes: by the patch, if there is one and it is of this transaction and still valid.
 pub(crate) fn apply_with(
     rows: &mut Rows,
     alloc: Global,

@@ -49,7 +49,7 @@ impl Core {
         self.kept_channel(channel)
     }
 
-    /// How many places a channel has, where there is that channel.
+    /// How many places a channel has, or none if there is no such channel.
     pub fn places(&self, channel: usize) -> Option<usize>
         ensures { result ≡ places self.now.state channel }
     {
@@ -59,7 +59,7 @@ impl Core {
         }
     }
 
-    /// The set that a Position of a channel would answer now, where there is that channel.
+    /// The set that a Position of a channel would answer now, or none if there is no such channel.
     pub fn ask(&self, alloc: Global, channel: usize) -> Result<Option<GtidSet>, SetFault>
         ensures ok { IfOk result (λ asked. asked ≡ ask_set channel self.now.state) }
         ensures fault { IfErr result (λ f. IsFaultIn f (ask_set channel self.now.state)) }
@@ -72,7 +72,7 @@ impl Core {
         Ok(Some(asked))
     }
 
-    /// The GTID at a place of a channel, with its transaction where the GTID is not executed.
+    /// The GTID at a place of a channel, with its transaction if the GTID is not executed.
     pub fn entry(&self, channel: usize, place: usize) -> Option<(Gtid, Option<&Transaction>)>
         ensures { MatchOption result (IsNoEntry self.now channel place) (λ e. IsEntryAt self.now channel place e.0 (option_copied e.1)) }
     {
@@ -140,8 +140,8 @@ impl Core {
         let _ = self.kept_channel(0);
     }
 
-    /// A received entry has its transaction exactly where its GTID is not executed; the schema takes
-    /// it, and its number is in range. It does nothing; a proof calls it for its contract.
+    /// A received entry has its transaction if and only if its GTID is not executed; the schema takes it, and its number is in range. It
+    /// does nothing; a proof calls it for its contract.
     pub fn entries_are_kept(&self)
         ensures { AreKept self.now.site.schema self.now.state.executed self.now.state.channels }
     {

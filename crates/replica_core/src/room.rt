@@ -11,7 +11,7 @@ use gtid_text::Gtid;
 use journal::Entry;
 
 impl Core {
-    /// Whether the set with which a channel would ask, where there is that channel, has not too many sources.
+    /// Whether the set with which a channel would ask, if there is that channel, has not too many sources.
     fn has_room_to_ask(&self, channel: usize) -> bool
         ensures room { result ≡ true → HasRoomFor Memory (ask_set channel self.now.state) }
         ensures full { result ≡ false → IsFaultIn SourcesFull (ask_set channel self.now.state) }
@@ -22,7 +22,7 @@ impl Core {
         self.journal.executed().has_room_for_all(one.received())
     }
 
-    /// Whether what a channel has received, where there is that channel, has room for an entry.
+    /// Whether what a channel has received, if there is that channel, has room for an entry.
     fn has_room_to_receive(&self, channel: usize, entry: &Entry) -> bool
         ensures room { result ≡ true → HasRoomFor Memory (received_set channel entry.now self.now.state) }
         ensures full { result ≡ false → IsFaultIn SourcesFull (received_set channel entry.now self.now.state) }
@@ -89,8 +89,8 @@ impl Core {
         }
     }
 
-    /// The fault of an event where memory is refused before its step: `SourcesFull` where the set that it makes would have more than
-    /// 65,536 sources, and else `Memory`.
+    /// The fault of an event if there is no memory before its step: `SourcesFull` if the set that it makes would have more than 65,536
+    /// sources, and else `Memory`.
     pub fn refusal(&self, event: &Event) -> SetFault
         ensures cause { IsCause result self.now.site self.now.state event.now }
         ensures room { HasRoomFor result (set_made_by self.now.site self.now.state event.now) }

@@ -37,14 +37,12 @@ impl Core {
         Ok(Reply::Shown(shown))
     }
 
-    /// One event: its reply, and the state that it leaves. After an error nothing has changed. An
-    /// error comes only in place of a reply that allocates: `Memory` where memory was refused and the
-    /// set that the event makes, if it makes one, has at most 65,536 sources (`room`), and
-    /// `SourcesFull` or `PoolFull` only where the set that the event makes would have more than 65,536
-    /// sources, or more than 4,294,967,294 intervals: the set to ask with, the received set with the
-    /// entry's GTID, the executed set with the committed GTID, or the purged set. The purged set is made
-    /// entry by entry, and has too many intervals also where it has them on the way.
-    /// The numbers of received GTIDs are 1 to 9223372036854775807.
+    /// One event: its reply, and the state that it leaves. After an error nothing has changed. An error comes only in place of a reply that
+    /// allocates: `Memory` if out of memory and the set that the event makes, if it makes one, has at most 65,536 sources (`room`), and
+    /// `SourcesFull` or `PoolFull` only if the set that the event makes would have more than 65,536 sources, or more than 4,294,967,294
+    /// intervals: the set to ask with, the received set with the entry's GTID, the executed set with the committed GTID, or the purged set.
+    /// The purged set is made entry by entry, and has too many intervals also if it has them on the way. The numbers of received GTIDs are
+    /// 1 to 9223372036854775807.
     pub fn step(&mut self, alloc: Global, event: &Event) -> Result<Reply, SetFault>
         requires { is_numbered event.now ≡ true }
         ensures ok { IfOk result (λ r. (r, self.new.state) ≡ step self.old.site self.old.state event.now) }
@@ -68,7 +66,7 @@ impl Core {
     }
 }
 
-/// Puts a reply at the end, where there is room.
+/// Appends a reply, if there is room.
 fn put(so_far: &mut Vec<Reply>, reply: Reply)
     requires { vec_len so_far.old < vec_capacity so_far.old }
     ensures { so_far.new.items ≡ so_far.old.items ++ reply ∷ [] }
@@ -79,10 +77,9 @@ fn put(so_far: &mut Vec<Reply>, reply: Reply)
 }
 
 impl Core {
-    /// Events in turn: the replies up to the first error, and that error. What came before it stays.
-    /// Room for each reply is made before its step. The error is that of the next event's step, or
-    /// where room for its reply was refused, `SourcesFull` if the set that it makes would have more than
-    /// 65,536 sources, and else `Memory`.
+    /// Events in turn: the replies up to the first error, and that error. What came before it stays. Room for each reply is made before its
+    /// step. The error is that of the next event's step; or, if there was no room for its reply, `SourcesFull` if the set that it makes
+    /// would have more than 65,536 sources, and else `Memory`.
     pub fn run(&mut self, alloc: Global, events: &[Event]) -> (Vec<Reply>, Option<SetFault>)
         requires { AreNumbered events.now }
         ensures replies { result.0.items ≡ replies self.old.site self.old.state (answered_events result.0.items events.now) }

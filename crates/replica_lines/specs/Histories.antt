@@ -13,7 +13,7 @@ seat_of (event.Commit seat) = Some seat
 seat_of (event.Rollback seat) = Some seat
 seat_of e = None
 
--- a seat, where there is one
+-- a seat, if there is one
 abbrev pub seat_word : Option ℕ → List ℕ
 seat_word None = codes "-"
 seat_word (Some seat) = decimal seat

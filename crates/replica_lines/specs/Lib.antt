@@ -1,3 +1,4 @@
 pub mod Replies
 pub mod Events
 pub mod Histories
+pub mod Status

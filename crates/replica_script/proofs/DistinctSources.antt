@@ -7,6 +7,7 @@ use Rattle.std.specs.declared.cmp.Ordering.{Ordering}
 use Rattle.std.specs.declared.cmp.Ordering.TheVariants.{Less, Equal, Greater}
 use Rattle.std.specs.BTreeSet.{insert_key}
 use Rattle.std.proofs.lemmas.Bool.{eqb-true}
+use Rattle.lemmas.proofs.Tests.{or_four, or_twice}
 use Rattle.network.specs.Nodes.{ids_distinct}
 
 -- each is new: neither among those seen nor one that came earlier
@@ -14,12 +15,9 @@ abbrev pub are_new_to : (ℕ → Bool) → List ℕ → Bool
 are_new_to seen [] = true
 are_new_to seen (own ∷ ids) = not (seen own) && are_new_to (λ v. eqb v own || seen v) ids
 
-either_first : (a b c d : Bool) → ((a || b) || (c || d)) ≡ ((a || c) || (b || d))
-either_first a b c d = grind arith
-
 any_either : (own : ℕ) (seen : ℕ → Bool) (ids : List ℕ) → list_any (λ v. eqb v own || seen v) ids ≡ (list_any (λ v. eqb v own) ids || list_any seen ids)
 any_either own seen [] = refl
-any_either own seen (x ∷ xs) = rw (any_either own seen xs) (either_first (eqb x own) (seen x) (list_any (λ v. eqb v own) xs) (list_any seen xs))
+any_either own seen (x ∷ xs) = rw (any_either own seen xs) (or_four (eqb x own) (seen x) (list_any (λ v. eqb v own) xs) (list_any seen xs))
 
 both : (s a b d : Bool) → (not s && (not (a || b) && d)) ≡ (not (s || b) && (not a && d))
 both s a b d = grind arith
@@ -40,9 +38,6 @@ new_all ids = new_both (λ v. false) ids ∙ rw (none_of ids) refl
 
 abbrev pub IsExact : (ℕ → ℕ → Ordering) → Type 0
 IsExact cmp = (x y : ℕ) → is_eq (cmp x y) ≡ eqb x y
-
-or_twice : (a r : Bool) → (a || r) ≡ (a || (a || r))
-or_twice a r = grind arith
 
 or_swap : (a b r : Bool) → (b || (a || r)) ≡ (a || (b || r))
 or_swap a b r = grind arith

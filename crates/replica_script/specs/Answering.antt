@@ -5,7 +5,7 @@ use Rattle.std.specs.Io.BufRead.{first_piece, drop_through}
 use Rattle.replica_script.specs.declared.answer.Asking.{Asking}
 use Rattle.replica_script.specs.declared.answer.Stop.{Stop}
 use Rattle.replica_script.specs.declared.answer.Stop.TheVariants as stop
-use Rattle.replica_script.specs.declared.edge.Line.{Line}
+use Rattle.replica_script.specs.declared.edge.ScriptLine.{ScriptLine}
 use Rattle.replica_script.specs.declared.edge.ScriptFault.{ScriptFault}
 use Rattle.replica_script.specs.declared.edge.ScriptFault.TheVariants.{BadLine, CutShort, Memory, Changed, Read, Write}
 use Rattle.replica_script.specs.declared.script.Script.{Script}
@@ -51,7 +51,7 @@ abbrev pub IsHalfWritten : {S : Type 0} → (S → List ℕ → List ℕ → S �
 IsHalfWritten {S} answers before line old new = (text : List ℕ) × (after : S) × answers before line text after × IsCutShort old new text
 
 -- Why a line was not answered: it has no answer, and nothing was written; or writing the answer failed.
-abbrev pub IsLineFault : {S : Type 0} → (S → List ℕ → List ℕ → S → Type 0) → (S → List ℕ → Stop → Type 0) → S → Line → Option (List ℕ) → Option (List ℕ) → ScriptFault → Type 0
+abbrev pub IsLineFault : {S : Type 0} → (S → List ℕ → List ℕ → S → Type 0) → (S → List ℕ → Stop → Type 0) → S → ScriptLine → Option (List ℕ) → Option (List ℕ) → ScriptFault → Type 0
 IsLineFault answers stops before line old new (BadLine bad) = (bad ≡ line) × stops before line.text.items stop.BadLine × Keeps old new
 IsLineFault answers stops before line old new Memory = stops before line.text.items stop.Memory × Keeps old new
 IsLineFault answers stops before line old new Changed = stops before line.text.items stop.Changed × Keeps old new

@@ -14,12 +14,12 @@ abbrev pub sources_of : List (List ℕ) → Option (List ℕ)
 sources_of [] = Some []
 sources_of (word ∷ words) = option_and_then (λ own. option_map (λ ids. own ∷ ids) (sources_of words)) (source_of_word word)
 
--- the set that a replica is declared to have executed: empty where there is no word for it
+-- the set that a replica is declared to have executed: empty if there is no word for it
 abbrev pub executed_of : Option (List ℕ) → Option Gtids
 executed_of None = Some set.empty
 executed_of (Some word) = set_of_word word
 
--- why no network is opened: memory was refused, or a UUID occurs twice
+-- why no network is opened: out of memory, or a UUID occurs twice
 abbrev pub IsStopOfIds : List ℕ → Stop → Type 0
 IsStopOfIds ids stop.Memory = Unit {0}
 IsStopOfIds ids stop.Changed = ⊥

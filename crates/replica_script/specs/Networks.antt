@@ -42,14 +42,14 @@ abbrev pub NetworkAnswers : List Node → NetworkQuestion → List Node → List
 NetworkAnswers old (question.Event event) new text = IsNetworkAnswer old event new text
 NetworkAnswers old (question.Query i query) new text = IsShownAt old i query text × (new ≡ old)
 
--- why a question stops a script: memory was refused, or it is an event whose number is out of range
+-- why a question stops a script: out of memory, or it is an event whose number is out of range
 abbrev pub IsNetworkStopAt : NetworkQuestion → Stop → Type 0
 IsNetworkStopAt q stop.Memory = Unit {0}
 IsNetworkStopAt q stop.Changed = ⊥
 IsNetworkStopAt (question.Event event) stop.BadLine = is_numbered event ≡ false
 IsNetworkStopAt (question.Query i query) stop.BadLine = ⊥
 
--- what a question leaves where it has no answer: the nodes as they were, or those after the event whose reply was not given
+-- what a question leaves if it has no answer: the nodes as they were, or those after the event whose reply was not given
 abbrev pub IsNetworkLeft : List Node → NetworkEvent → List Node → Type 0
 IsNetworkLeft old event new = (new ≡ old) ⊎ (new ≡ (step old event).1)
 

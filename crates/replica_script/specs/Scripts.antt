@@ -18,18 +18,18 @@ use Rattle.replica_script.specs.declared.answer.Unanswered.{Unanswered}
 use Rattle.replica_script.specs.declared.answer.Unanswered.TheVariants as unasked
 use Rattle.replica_script.specs.declared.answer.Stop.{Stop}
 use Rattle.replica_script.specs.declared.answer.Stop.TheVariants as stop
-use Rattle.replica_script.specs.declared.edge.Line.{Line}
+use Rattle.replica_script.specs.declared.edge.ScriptLine.{ScriptLine}
 use Rattle.replica_script.specs.declared.edge.ScriptFault.{ScriptFault}
 use Rattle.replica_script.specs.declared.edge.ScriptFault.TheVariants.{BadLine, CutShort, Memory, Changed, Read, Write}
-use Rattle.replica_script.specs.declared.Command.{Command}
-use Rattle.replica_script.specs.declared.Command.TheVariants.{Run, Help}
+use Rattle.replica_script.specs.declared.ScriptCommand.{ScriptCommand}
+use Rattle.replica_script.specs.declared.ScriptCommand.TheVariants.{Run, Help}
 use Rattle.replica_lines.specs.Replies.{reply_line}
 use Rattle.replica_script.specs.Replies.{with_line_feed}
 use Rattle.replica_script.specs.Texts.{query_text}
 
 -- ---- answers
 
--- A set would have too many sources or intervals, where that may be, and this is the line of that.
+-- A set would have too many sources or intervals, if that may be, and this is the line of that.
 abbrev pub IsFullLine : (SetFault → Type 0) → List ℕ → Type 0
 IsFullLine may text = (may SourcesFull × (text ≡ codes "SourcesFull\n")) ⊎ (may PoolFull × (text ≡ codes "PoolFull\n"))
 
@@ -57,14 +57,15 @@ abbrev pub Answers : Replica → Question → Replica → List ℕ → Type 0
 Answers old (question.Event event) new text = IsAnswer old event new text
 Answers old (question.Query query) new text = IsShown old query text × (new ≡ old)
 
--- why a question stops a script: memory was refused, or it is an event whose number is out of range, which is a bad line; never that a call which was refused memory has changed the replica
+-- why a question stops a script: out of memory, or it is an event whose number is out of range, which is a bad line; never that a call
+-- which was refused memory has changed the replica
 abbrev pub IsStopAt : Question → Stop → Type 0
 IsStopAt asked stop.Memory = Unit {0}
 IsStopAt asked stop.Changed = ⊥
 IsStopAt (question.Event event) stop.BadLine = is_numbered event ≡ false
 IsStopAt (question.Query query) stop.BadLine = ⊥
 
--- what a question leaves where it has no answer: what it was asked of, or the state after the event whose reply was not given
+-- what a question leaves if it has no answer: what it was asked of, or the state after the event whose reply was not given
 abbrev pub IsLeft : Replica → Event → Replica → Type 0
 IsLeft old event new = (new ≡ old) ⊎ ((new.state ≡ (step old.site old.state event).1) × (new.site ≡ old.site))
 
@@ -80,7 +81,7 @@ unanswered SourcesFull = unasked.SourcesFull
 unanswered PoolFull = unasked.PoolFull
 unanswered sets.Memory = unasked.Memory
 
--- why there is no answer: memory was refused, or the set that is made would have too many sources or intervals, where that may be
+-- why there is no answer: out of memory, or the set that is made would have too many sources or intervals, if that may be
 abbrev pub IsUnanswered : (SetFault → Type 0) → Unanswered → Type 0
 IsUnanswered may unasked.Memory = Unit {0}
 IsUnanswered may unasked.SourcesFull = may SourcesFull
@@ -90,33 +91,33 @@ IsUnanswered may unasked.Changed = ⊥
 -- ---- the words of the command line
 
 -- what one word asks for, if anything
-abbrev pub command_named : List ℕ → Option Command
+abbrev pub command_named : List ℕ → Option ScriptCommand
 command_named word =
     if bytes_eq word (codes "--again") then Some (Run asking.Again)
     else if bytes_eq word (codes "--help") then Some Help
     else None
 
 -- what the words ask for, if anything
-abbrev pub command_of : {Z : Type 0} → List (String Z) → Option Command
+abbrev pub command_of : {Z : Type 0} → List (String Z) → Option ScriptCommand
 command_of [] = Some (Run asking.Once)
 command_of (word ∷ []) = command_named (string_bytes word)
 command_of (word ∷ next ∷ more) = None
 
 -- ---- the end
 
--- how a script has ended where no line follows: an end inside a transaction is a bad line
+-- how a script has ended if no line follows: an end inside a transaction is a bad line
 abbrev pub ending : Option Stop → Bool → Result (Unit {0}) Stop
 ending (Some stop) inside = Err stop
 ending None true = Err stop.BadLine
 ending None false = Ok tt
 
 -- what a stop at a line means for the program
-abbrev pub fault_at : Line → Stop → ScriptFault
+abbrev pub fault_at : ScriptLine → Stop → ScriptFault
 fault_at line stop.BadLine = BadLine line
 fault_at line stop.Memory = Memory
 fault_at line stop.Changed = Changed
 
--- what a stop means where no line follows
+-- what a stop means if no line follows
 abbrev pub fault_at_end : Stop → ScriptFault
 fault_at_end stop.BadLine = CutShort
 fault_at_end stop.Memory = Memory

@@ -9,14 +9,14 @@ use Rattle.apply_channel.specs.Channels.{Received}
 use Rattle.txn_journal.specs.WrittenSets.{set_text}
 use Rattle.txn_journal.specs.Spelling.{spelling}
 use Rattle.gtid_report.specs.State.{row_line}
-use Rattle.gtid_report.specs.Status.{status_text}
+use Rattle.replica_lines.specs.Status.{status_text}
 use Rattle.replica_core.specs.State.{Replica, State, entry_at}
 use Rattle.replica_core.specs.Machine.{ask, drained, next_ready}
 use Rattle.replica_script.specs.declared.question.Query.{Query}
 use Rattle.replica_script.specs.declared.question.Query.TheVariants as query
 use Rattle.replica_script.specs.Replies.{with_line_feed}
 
--- a set, where there is one
+-- a set, if there is one
 abbrev pub set_or_none : Option Gtids → List ℕ
 set_or_none None = codes "none"
 set_or_none (Some s) = set_text s
@@ -29,7 +29,7 @@ changes_or_gone (Some txn) = decimal (length txn.changes)
 abbrev pub shown_entry : Gtid → Option Transaction → List ℕ
 shown_entry gtid txn = gtid_text gtid ++ codes " " ++ changes_or_gone txn
 
--- an entry, where there is one
+-- an entry, if there is one
 abbrev pub entry_or_none : Option Received → List ℕ
 entry_or_none None = codes "none"
 entry_or_none (Some e) = shown_entry e.gtid e.txn
@@ -38,11 +38,11 @@ abbrev pub truth : Bool → List ℕ
 truth true = codes "true"
 truth false = codes "false"
 
--- the set with which a channel would ask now, where there is that channel
+-- the set with which a channel would ask now, if there is that channel
 abbrev pub asks : State → ℕ → Option Gtids
 asks s channel = option_map (ask s) (slice_get s.channels channel)
 
--- a place, where there is one
+-- a place, if there is one
 abbrev pub place_or_none : Option ℕ → List ℕ
 place_or_none None = codes "none"
 place_or_none (Some place) = decimal place

@@ -38,6 +38,6 @@ pub record IsTold (before : Script) (line text : List ℕ) (after : Script) : Ty
 abbrev pub IsStoppedBy : Script → List ℕ → Stop → Type 0
 IsStoppedBy before line stop = (first : Stop) → before.stopped ≡ Some first → stop ≡ first
 
--- how a script has ended where no line follows
+-- how a script has ended if no line follows
 abbrev pub script_end : Script → Result (Unit {0}) Stop
 script_end script = ending script.stopped (is_some script.stage.pending)

@@ -20,7 +20,7 @@ use std::alloc::{AllocError, Global};
 pub enum Stop {
     /// A line that is not in the language at its place, or an end inside a transaction.
     BadLine,
-    /// Memory was refused.
+    /// Out of memory.
     Memory,
     /// A call that was refused memory has changed the replica.
     Changed,
@@ -50,7 +50,7 @@ enum Unanswered {
     SourcesFull,
     /// A set that is made would have too many intervals.
     PoolFull,
-    /// Memory was refused.
+    /// Out of memory.
     Memory,
     /// A call that was refused memory has changed the replica.
     Changed,
@@ -68,7 +68,7 @@ impl From<SetFault> for Unanswered {
     }
 }
 
-/// A copy of a replica, asked for once more where memory was refused.
+/// A copy of a replica; if out of memory, it is asked for once more.
 fn copy_of(alloc: Global, core: &Core) -> Result<Core, SetFault>
     ensures ok { IfOk result (λ copy. copy ≡ core.now) }
 {
@@ -78,8 +78,8 @@ fn copy_of(alloc: Global, core: &Core) -> Result<Core, SetFault>
     }
 }
 
-/// One event. Where it was refused memory it is made once more, if the replica is still equal to the copy that was made before, as it
-/// always is.
+/// One event. If it was refused memory, it is made once more, if the replica is still equal to the copy that was made before, as it always
+/// is.
 fn step_beside(
     alloc: Global,
     core: &mut Core,
@@ -134,8 +134,8 @@ fn step(alloc: Global, core: &mut Core, event: &Event, asking: Asking) -> Result
     }
 }
 
-/// The lines that answer a query. Where memory was refused it is made once more, if the replica is still equal to the copy that was made
-/// before, as it always is.
+/// The lines that answer a query. If out of memory, it is made once more, if the replica is still equal to the copy that was made before,
+/// as it always is.
 fn show_beside(
     alloc: Global,
     core: &Core,
@@ -195,7 +195,7 @@ pub fn crowded_line(alloc: Global) -> Result<Vec<u8>, AllocError>
     Vec::from_slice(alloc, b"PoolFull\n")
 }
 
-/// Makes an event of a replica. Where the set that it makes would have too many sources or intervals that is the answer, and nothing has
+/// Makes an event of a replica. If the set that it makes would have too many sources or intervals, that is the answer, and nothing has
 /// changed.
 pub fn answer_event(
     alloc: Global,

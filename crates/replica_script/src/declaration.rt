@@ -78,7 +78,7 @@ impl Declared {
     }
 }
 
-/// The executed set of a replica that is declared: empty where no word denotes it. Its numbers are 1 to 2^63 - 1.
+/// The executed set of a replica that is declared: empty if no word denotes it. Its numbers are 1 to 2^63 - 1.
 #[tactic(auto, using(journal::proofs::EntryLemmas::no_numbers))]
 pub fn executed_word(alloc: Global, word: Option<&[u8]>) -> Result<GtidSet, Stop>
     ensures numbers { IfOk result HaveNumbers }
@@ -143,7 +143,7 @@ fn are_distinct(alloc: Global, ids: &[SourceId]) -> Result<bool, AllocError>
     Ok(true)
 }
 
-/// A network on the rows of a bundle. Where a UUID occurs twice it is a bad line.
+/// A network on the rows of a bundle. If a UUID occurs twice, it is a bad line.
 pub fn network_on(alloc: Global, bundle: &Bundle, ids: &[SourceId]) -> Result<Network, Stop>
     ensures opened { IfOk result (λ n. n ≡ new_nodes ids.now bundle.now.start.schema bundle.now.start.rows) }
     ensures stop { IfErr result (IsStopOfIds ids.now) }

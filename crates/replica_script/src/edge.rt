@@ -15,7 +15,7 @@ const TRIES: u32 = 1_000;
 
 /// A line of a script.
 #[derive(Drop)]
-pub struct Line {
+pub struct ScriptLine {
     /// Its number, from 1.
     pub number: u64,
     /// Its bytes, without the line feed.
@@ -26,10 +26,10 @@ pub struct Line {
 #[derive(Drop)]
 pub enum ScriptFault {
     /// A line that is not in the language at its place.
-    BadLine(Line),
+    BadLine(ScriptLine),
     /// An end inside a transaction.
     CutShort,
-    /// Memory was refused.
+    /// Out of memory.
     Memory,
     /// A call that was refused memory has changed the replica.
     Changed,
@@ -40,7 +40,7 @@ pub enum ScriptFault {
 }
 
 /// What a stop at this line means.
-fn fault_at(line: Line, stop: Stop) -> ScriptFault
+fn fault_at(line: ScriptLine, stop: Stop) -> ScriptFault
     ensures { result ≡ fault_at line stop }
 {
     match stop {
@@ -50,7 +50,7 @@ fn fault_at(line: Line, stop: Stop) -> ScriptFault
     }
 }
 
-/// What a stop means where no line follows.
+/// What a stop means if no line follows.
 fn fault_at_end(stop: Stop) -> ScriptFault
     ensures { result ≡ fault_at_end stop }
 {
@@ -82,7 +82,7 @@ pub trait Answerer {
     /// Why a line has no answer.
     ghost stops: { Self → List ℕ → Stop → Type 0 };
 
-    /// How the lines have ended where none follows.
+    /// How the lines have ended if none follows.
     ghost ends: { Self → Result (Unit {0}) Stop };
 
     /// Takes the next line, without its line feed, and answers it.
@@ -90,7 +90,7 @@ pub trait Answerer {
         ensures answer { IfOk result (λ text. answers self.old line.now text.items self.new) }
         ensures stop { IfErr result (stops self.old line.now) };
 
-    /// How the lines have ended, where none follows.
+    /// How the lines have ended, if none follows.
     fn end(&self) -> Result<(), Stop>
         ensures { result ≡ ends self.now };
 }
@@ -104,7 +104,7 @@ fn drop_feed(text: &mut Vec<u8>)
     }
 }
 
-/// Writes once, and again where the write was interrupted.
+/// Writes once, and again if the write was interrupted.
 fn write_again<W: Write>(writer: &mut W, bytes: &[u8]) -> Result<usize, ScriptFault>
     ensures bound { IfOk result (λ n. n ≤ length bytes.now) }
     ensures bytes { WriteAppends (W.contents writer.old) (W.contents writer.new) result bytes.now }
@@ -120,7 +120,7 @@ fn write_again<W: Write>(writer: &mut W, bytes: &[u8]) -> Result<usize, ScriptFa
     Err(ScriptFault::Write)
 }
 
-/// Hands on what was written, and once more where that was interrupted.
+/// Flushes what was written, and once more if that was interrupted.
 fn flush_again<W: Write>(writer: &mut W) -> Result<(), ScriptFault>
     ensures bytes { Keeps (W.contents writer.old) (W.contents writer.new) }
     ensures fault { IfErr result (λ fault. fault ≡ ScriptFault.Write) }
@@ -155,7 +155,7 @@ fn write_answer<W: Write>(text: &[u8], writer: &mut W) -> Result<(), ScriptFault
 fn answer_line<A: Answerer, W: Write>(
     alloc: Global,
     script: &mut A,
-    line: Line,
+    line: ScriptLine,
     writer: &mut W,
 ) -> Result<(), ScriptFault>
     ensures ok { OnOk result (IsWritten A.answers script.old line.text.items script.new (W.contents writer.old) (W.contents writer.new)) }
@@ -167,7 +167,7 @@ fn answer_line<A: Answerer, W: Write>(
     }
 }
 
-/// How a script has ended, where no line follows.
+/// How a script has ended, if no line follows.
 fn check_end<A: Answerer>(script: &A) -> Result<(), ScriptFault>
     ensures { result ≡ ended (A.ends script.now) }
 {
@@ -206,7 +206,7 @@ fn answer_next<A: Answerer, R: BufRead, W: Write>(
 {
     match read_line(alloc, reader) {
         Ok(None) => Ok(false),
-        Ok(Some(text)) => match answer_line(alloc, script, Line { number, text }, writer) {
+        Ok(Some(text)) => match answer_line(alloc, script, ScriptLine { number, text }, writer) {
             Ok(()) => Ok(true),
             Err(fault) => Err(fault),
         },

@@ -2,22 +2,22 @@
 //! prints each answer before it reads the next line. docs/SCRIPTS.md has the language.
 //!
 //! What a contract sees: a question (an event or a query), the state before it, the printed text and the state after it. The line of an
-//! event is that of the reply of the machine's `step`, and the state after it is `step`'s; a query's lines are those of the state, which
-//! it leaves (`answer`). Where a set is full, that is the line, and nothing has changed. Where memory is refused, the replica is as
-//! before, or in the state after the event whose reply could not be printed (`left`). A network likewise (`answer_network`). A bad line
-//! ends the script (`stop`, `stops`).
+//! event is that of the reply of the machine's `step`, and the state after it is `step`'s; a query's lines are those of the state, which it
+//! leaves (`answer`). If a set is full, that is the line, and nothing has changed. If out of memory, the replica is as before, or in the
+//! state after the event whose reply could not be printed (`left`). A network likewise (`answer_network`). A bad line ends the script
+//! (`stop`, `stops`).
 //!
 //! From the input to the output (`run_script`, where a reader's bytes are known): the lines are taken in order from the first on, each by
-//! the state that the line before it left, and what was written is their answers; where a write fails it is these answers and a prefix of
-//! the next. It ends where nothing is left, or at the first line that has no answer, and the fault is that line's with its number (`Ends`).
-//! The proof knows nothing of what answers the lines (`Answerer`), and so it can neither skip, repeat nor make up an answer. Of `Script`'s own
+//! the state that the line before it left, and what was written is their answers; if a write fails, it is these answers and a prefix of the
+//! next. It ends when nothing is left, or at the first line that has no answer, and the fault is that line's with its number (`Ends`). The
+//! proof knows nothing of what answers the lines (`Answerer`), and so it can neither skip, repeat nor make up an answer. Of `Script`'s own
 //! answers it is proved that a line which is passed over is answered by nothing and changes nothing, that `---` begins anew, and that none
 //! comes after a stop (`IsTold`). What is written of a seat's event is read back as that event (`laws`).
 //!
 //! Tables, rows and changes are read by the readers of `txn_journal`.
 //!
-//! With `--again` an event or query that is refused memory is asked once more, where the replica equals a copy that was made before it.
-//! It always does, by proof; the comparison is there for the compilers below the proof (`sweep/refused_memory`).
+//! With `--again` an event or query that is refused memory is asked once more, if the replica equals a copy that was made before it. It
+//! always does, by proof; the comparison is there for the compilers below the proof (`sweep/refused_memory`).
 //!
 //! Exit status: 0 the whole script was answered, 2 a bad line or another command line, 3 out of memory, 4 reading or writing failed, 5 a
 //! refused call has changed the replica.
@@ -51,7 +51,7 @@ use std::process::ExitCode;
 
 /// What the command line asks for.
 #[derive(Clone, Copy, Drop)]
-pub enum Command {
+pub enum ScriptCommand {
     /// The answers to the script on standard input.
     Run(Asking),
     /// How the program is called.
@@ -85,24 +85,24 @@ pub fn exit_status(ended: &Result<(), ScriptFault>) -> u8
 }
 
 /// What one word asks for, if anything.
-fn command_named(word: &[u8]) -> Option<Command>
+fn command_named(word: &[u8]) -> Option<ScriptCommand>
     ensures { result ≡ command_named word.now }
 {
     if word == b"--again".as_slice() {
-        Some(Command::Run(Asking::Again))
+        Some(ScriptCommand::Run(Asking::Again))
     } else if word == b"--help".as_slice() {
-        Some(Command::Help)
+        Some(ScriptCommand::Help)
     } else {
         None
     }
 }
 
 /// What the words of the command line ask for, if anything.
-fn command_of(words: &[String]) -> Option<Command>
+fn command_of(words: &[String]) -> Option<ScriptCommand>
     ensures { result ≡ command_of words.now }
 {
     match words {
-        [] => Some(Command::Run(Asking::Once)),
+        [] => Some(ScriptCommand::Run(Asking::Once)),
         [word] => command_named(word.as_bytes()),
         _ => None,
     }
@@ -144,8 +144,8 @@ fn print_help(rt: &HostRuntime) -> Result<(), ScriptFault> {
 
 fn run(rt: &HostRuntime, words: &[String]) -> u8 {
     let ended = match command_of(words) {
-        Some(Command::Run(asking)) => answer_input(rt, asking),
-        Some(Command::Help) => print_help(rt),
+        Some(ScriptCommand::Run(asking)) => answer_input(rt, asking),
+        Some(ScriptCommand::Help) => print_help(rt),
         None => {
             let _ = eprintln!(rt; "{USAGE}");
             return 2;
@@ -157,7 +157,7 @@ fn run(rt: &HostRuntime, words: &[String]) -> u8 {
     exit_status(&ended)
 }
 
-/// Reports that memory was refused, with the status for it.
+/// Reports out of memory, with the status for it.
 fn out_of_memory(rt: &HostRuntime) -> ExitCode {
     write_error(rt, fault_word(&ScriptFault::Memory));
     ExitCode::from(3)

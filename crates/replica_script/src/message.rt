@@ -2,13 +2,13 @@
 ghost use Rattle.std.specs.Prelude.{◌≡◌, IfOk, string_bytes};
 ghost use Rattle.replica_script.specs.Messages.{bad_line_text, fault_word};
 
-use crate::edge::{Line, ScriptFault};
+use crate::edge::{ScriptFault, ScriptLine};
 use gtid_report::push_number;
 use std::alloc::{AllocError, Global};
 
 /// The message on a line that is not in the language: its number and its text, in which each sequence of bytes that is not
 /// UTF-8 is U+FFFD. Without a line feed.
-pub fn bad_line_text(alloc: Global, line: &Line) -> Result<String, AllocError>
+pub fn bad_line_text(alloc: Global, line: &ScriptLine) -> Result<String, AllocError>
     ensures { IfOk result (λ text. string_bytes text ≡ bad_line_text line.now) }
 {
     let text = String::from_utf8_lossy(alloc, &line.text)?;

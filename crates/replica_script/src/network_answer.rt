@@ -10,8 +10,8 @@ use gtid_set::SetFault;
 use network::{Network, NetworkEvent};
 use std::alloc::Global;
 
-/// Makes an event of a network, once. Where a set that it makes would have too many sources or intervals that is the answer, and nothing
-/// has changed.
+/// Makes an event of a network, once. If a set that it makes would have too many sources or intervals, that is the answer, and nothing has
+/// changed.
 pub fn answer_network_event(
     alloc: Global,
     network: &mut Network,

@@ -8,10 +8,11 @@ ghost use Rattle.replica_script.specs.Scripts.{made_for};
 ghost use Rattle.replica_script.specs.Texts.{changes_or_gone, place_or_none, query_text, shown_entry, truth};
 
 use crate::question::Query;
-use gtid_report::{push_number, push_set, render_rows, status};
+use gtid_report::{push_number, push_set, render_rows};
 use gtid_set::{GtidSet, SetFault};
 use gtid_text::{Gtid, write_gtid};
 use replica_core::Core;
+use replica_lines::status;
 use rows::Transaction;
 use std::alloc::{AllocError, Global};
 use txn_journal::encode;
@@ -110,8 +111,7 @@ fn entry_line(
     shown_line(alloc, gtid, txn)
 }
 
-/// The lines that answer a query. Another error than `Memory` comes only where the set with which a
-/// channel would ask has too many sources.
+/// The lines that answer a query. Another error than `Memory` comes only if the set with which a channel would ask has too many sources.
 pub fn query_text(alloc: Global, core: &Core, query: Query) -> Result<Vec<u8>, SetFault>
     ensures ok { IfOk result (λ text. text.items ≡ query_text core.now query) }
     ensures fault { IfErr result (λ f. IsFaultIn f (made_for query core.now.state)) }

@@ -172,7 +172,7 @@ fn name_in(alloc: Global, word: &[u8]) -> Result<Option<Name>, AllocError> {
     }
 }
 
-/// Whether a channel preserves order, by the words after its name; none where they are not in the language.
+/// Whether a channel preserves order, by the words after its name; none if they are not in the language.
 fn preserves(more: Option<&[u8]>) -> Option<bool> {
     match more {
         None => Some(false),
@@ -215,7 +215,7 @@ fn at_node(node: usize, question: Question) -> NetworkQuestion
     }
 }
 
-/// A question of the replica of this node, or of the one replica where there is no network.
+/// A question of the replica of this node, or of the one replica if there is no network.
 pub fn asked_of(node: Option<usize>, question: Question) -> Asked
     ensures { result ≡ asked_of node question }
 {

@@ -16,7 +16,7 @@ pub enum Replicas {
     Network(Network),
 }
 
-/// An answer to a question. A question to a network is a bad line where there is one replica, and the other way round.
+/// An answer to a question. A question to a network is a bad line if there is one replica, and the other way round.
 pub fn answer_asked(
     alloc: Global,
     replicas: &mut Replicas,

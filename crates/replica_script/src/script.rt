@@ -286,7 +286,7 @@ impl Answerer for Script {
         }
     }
 
-    /// How the script has ended, where no line follows. An end inside a transaction is a bad line.
+    /// How the script has ended, if no line follows. An end inside a transaction is a bad line.
     fn end(&self) -> Result<(), Stop> {
         if let Some(stop) = self.stopped {
             return Err(stop);

@@ -96,7 +96,7 @@ fn event_with(channel: Option<usize>, entry: Entry) -> Event {
 /// A transaction whose change lines are due.
 #[derive(Drop)]
 pub struct Pending {
-    /// The node whose replica is asked; none where the script has one replica.
+    /// The node whose replica is asked; none if the script has one replica.
     node: Option<usize>,
     /// The channel that receives it; none for one of the replica's own.
     channel: Option<usize>,
@@ -122,7 +122,7 @@ impl Pending {
         }
     }
 
-    /// Takes a line: what is asked, where that was the last line.
+    /// Takes a line; returns what is asked, if that was the last line.
     pub fn take_line(&mut self, alloc: Global, line: &[u8]) -> Result<Option<Asked>, Stop> {
         feed_reader(alloc, &mut self.reader, line)?;
         if line != b"end".as_slice() {

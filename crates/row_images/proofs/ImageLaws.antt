@@ -11,8 +11,7 @@ use Rattle.row_images.proofs.Counts.{lacks}
 use Rattle.row_images.proofs.PartLaws.{AllLack, parts_joined, parts_again}
 use Rattle.std.proofs.lemmas.Fmt.{decimal_nonempty}
 use Rattle.row_images.specs.declared.value.Value.TheVariants.{Null, Int, Bytes}
-use Rattle.row_images.proofs.ValueLaws.{value_of-text, value_of-found, value_lacks, blank_is_none}
-use Rattle.row_images.proofs.ValueLaws.{none_is as nothing_is}
+use Rattle.row_images.proofs.ValueLaws.{value_of-text, value_of-found, value_lacks, blank_is_none, none_is as nothing_is}
 
 -- ---- values one after another
 

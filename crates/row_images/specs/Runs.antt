@@ -31,7 +31,7 @@ IsRunIn class text at n run =
 abbrev pub first_set : ℕ → ℕ → ℕ
 first_set mask n = if mask == 0 then n else trailing_zeros w64 mask
 
--- the mask has a bit for each of the n bytes from at, which is set where the byte is not of the class
+-- the mask has a bit for each of the n bytes from at, which is set if the byte is not of the class
 abbrev pub MarksStops : (ℕ → Bool) → List ℕ → ℕ → ℕ → ℕ → Type 0
 MarksStops class text at n mask = IsRunIn class text at n (first_set mask n) × (mask ≢ 0 → first_set mask n < n)
 
@@ -43,6 +43,6 @@ is_word_end text n = if nat_lt n (length text) then slice_index text n == 32 els
 abbrev pub has_idle_zero : List ℕ → ℕ → Bool
 has_idle_zero text n = nat_lt 1 n && (slice_index text 0 == 48)
 
--- how long the first word is, where it parses as something
+-- the length of the first word, if it parses as something
 abbrev pub len_where : {A : Type 0} → (List ℕ → Option A) → List ℕ → Option ℕ
 len_where read text = if is_some (read (first_word text)) then Some (length (first_word text)) else None

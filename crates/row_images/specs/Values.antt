@@ -15,7 +15,7 @@ value_text Null = codes "null"
 value_text (Int n) = signed_decimal n
 value_text (Bytes bytes) = 120 ∷ encode_lower bytes
 
--- what is found, where its text is the word again
+-- what is found, if its text is the word again
 abbrev pub where_same : {A : Type 0} → (A → List ℕ) → List ℕ → A → Option A
 where_same text word x = if bytes_eq (text x) word then Some x else None
 

@@ -1,4 +1,4 @@
-//! The first word of a text, where it is that of a value.
+//! The first word of a text, if it is the word of a value.
 ghost use Rattle.std.specs.Prelude.{◌≡◌, ◌≤◌, Some, IfSome, drop, length};
 ghost use Rattle.row_images.specs.Runs.{is_word_end, has_idle_zero, len_where};
 ghost use Rattle.row_images.specs.Values.{bytes_of, value_of};
@@ -20,7 +20,7 @@ fn ends_at(text: &[u8], end: usize) -> bool
     }
 }
 
-/// Whether so many digits have a zero before the others.
+/// Whether the first `end` digits of a text have a zero before the others.
 #[inline(always)]
 fn has_idle_zero(text: &[u8], end: usize) -> bool
     requires { end ≤ length text.now }
@@ -29,7 +29,7 @@ fn has_idle_zero(text: &[u8], end: usize) -> bool
     end > 1 && text[0] == b'0'
 }
 
-/// How long the first word is, where it has the digits of bytes.
+/// The length of the first word, if it has the digits of bytes.
 #[inline(always)]
 fn digits_len(text: &[u8]) -> Option<usize>
     ensures len { result ≡ len_where bytes_of text.now }
@@ -45,7 +45,7 @@ fn digits_len(text: &[u8]) -> Option<usize>
     Some(end)
 }
 
-/// How long the first word is, where it is a number of few digits without a minus.
+/// The length of the first word, if it is a number of few digits without a minus.
 #[inline(always)]
 fn few_digits_len(text: &[u8]) -> Option<usize>
     ensures len { IfSome result (λ len. Some len ≡ len_where value_of text.now) }
@@ -64,7 +64,7 @@ fn few_digits_len(text: &[u8]) -> Option<usize>
     Some(end)
 }
 
-/// How long the first word is, where it is that of a value.
+/// The length of the first word, if it is the word of a value.
 #[inline(never)]
 fn word_len(text: &[u8]) -> Option<usize>
     ensures len { result ≡ len_where value_of text.now }
@@ -78,7 +78,7 @@ fn word_len(text: &[u8]) -> Option<usize>
     }
 }
 
-/// How long the first word is, where it is that of a value. It is read once.
+/// The length of the first word, if it is the word of a value. The word is read once.
 #[inline(always)]
 pub(crate) fn value_len(text: &[u8]) -> Option<usize>
     ensures len { result ≡ len_where value_of text.now }

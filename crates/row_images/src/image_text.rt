@@ -15,11 +15,11 @@ pub(crate) enum ImageText {
 }
 
 impl ImageText {
-    /// A copy of this text of so many values.
+    /// A copy of this text, which has `values` values.
     pub(crate) fn of(alloc: Global, text: &[u8], values: usize) -> Result<ImageText, AllocError>
         ensures { IfOk result (λ it. HasText it text.now values) }
     {
-        // (a text of more values takes 8 GB: it is refused as memory is)
+        // (a text of more values takes 8 GB: the answer is out of memory)
         if values > 4_294_967_295 {
             return Err(AllocError);
         }

@@ -30,7 +30,7 @@ impl Drop for KeyValues {
     }
 }
 
-/// Where the values are held: one alone in place, or shared where it has many bytes. (Small: each row has such for each key.)
+/// How the values are held: a single one in place, or shared if it has many bytes. (Small: each row has one for each key.)
 #[derive(Drop)]
 enum HeldValues {
     Null,

@@ -1,4 +1,4 @@
-//! Runs of bytes of one class, which are found 16 bytes at a time.
+//! Runs of bytes of one class; the search tests 16 bytes at a time.
 ghost use Rattle.std.specs.Prelude.{◌≡◌, ◌+◌, ◌≤◌, ℕ, Bool, length};
 ghost use Rattle.std.specs.Char.{is_ascii_digit};
 ghost use Rattle.memchr.specs.Find.{IsFirstByte, is_byte};
@@ -7,10 +7,10 @@ ghost use Rattle.row_images.specs.Runs.{is_word_byte, is_line_byte, first_set, M
 
 use std::simd::prelude::*;
 
-/// So many bytes are looked at in one step.
+/// How many bytes one step tests.
 const LANES: usize = 16;
 
-/// So many, where fewer than `LANES` are left.
+/// How many bytes one step tests when fewer than `LANES` are left.
 const FEW_LANES: usize = 8;
 
 /// A class of bytes.
@@ -21,12 +21,12 @@ pub(crate) trait ByteClass {
     fn has(byte: u8) -> bool
         ensures { result ≡ holds byte };
 
-    /// A bit for each of the 16 bytes at a place, set where the byte is not of the class.
+    /// A bit for each of the 16 bytes at a place, set if the byte is not of the class.
     fn stops(text: &[u8], at: usize) -> u64
         requires { at + 16 ≤ length text.now }
         ensures { MarksStops holds text.now at 16 result };
 
-    /// A bit for each of the 8 bytes at a place, set where the byte is not of the class.
+    /// A bit for each of the 8 bytes at a place, set if the byte is not of the class.
     fn few_stops(text: &[u8], at: usize) -> u64
         requires { at + 8 ≤ length text.now }
         ensures { MarksStops holds text.now at 8 result };

@@ -3,7 +3,7 @@ ghost use Rattle.std.specs.Prelude.{◌≡◌, IfSome};
 
 use std::marker::Model;
 
-/// So many bytes are held in place: with their number and the enum's tag they fill three words.
+/// The most bytes that are held in place: with their number and the enum's tag they fill three words.
 const ROOM: usize = 22;
 
 /// Few bytes, held in place.

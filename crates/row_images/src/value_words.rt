@@ -12,10 +12,10 @@ use crate::words::{count, is_count};
 use itoa::Buffer;
 use std::alloc::{AllocError, Global};
 
-/// So many digits are decoded on the stack: two for each byte that a value holds in place.
+/// The most digits that are decoded on the stack: two for each byte that a value holds in place.
 const FEW_DIGITS: usize = 44;
 
-/// The number that lies as far below 0 as this one above.
+/// The negative of a number.
 fn negative(number: u64) -> i64
     requires low { 1 ≤ number }
     requires high { number ≤ 2 ^ 63 }
@@ -54,10 +54,10 @@ fn int_from_zero(word: &[u8]) -> Option<i64>
     Some(number as i64)
 }
 
-/// So many digits are those of a number below 2^63.
+/// A number of this many decimal digits is below 2^63.
 pub(crate) const FEW_DECIMAL_DIGITS: usize = 18;
 
-/// Whether a word without a minus parses as a number. The number of few digits is not asked for.
+/// Whether a word without a minus parses as a number. If its digits are few, the number itself is not computed.
 fn is_int_from_zero(word: &[u8]) -> bool
     requires { starts_with_minus word.now ≡ false }
     ensures { result ≡ is_some (int_of word.now) }
@@ -299,7 +299,7 @@ fn are_lower_digits(word: &[u8]) -> bool
     ensures { result ≡ list_all is_lower_digit word.now }
 {
     let mut lower = true;
-    // (no branch, so that many bytes are asked at once)
+    // (no branch, so that many bytes are tested at once)
     for byte in word {
         lower &= is_lower_digit(*byte);
     }

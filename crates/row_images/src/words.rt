@@ -41,7 +41,7 @@ fn long_count(word: &[u8]) -> Option<u64>
     }
 }
 
-/// So many digits are those of a number below 2^64, whichever they are.
+/// A number of this many decimal digits is below 2^64, whichever they are.
 const SAFE_DIGITS: usize = 19;
 
 /// The number that the word parses as in digits, however it begins.

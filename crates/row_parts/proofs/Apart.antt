@@ -11,6 +11,7 @@ use Rattle.std.specs.declared.cmp.Ordering.TheVariants.{Less, Equal, Greater}
 use Rattle.std.proofs.lemmas.Map.{lookup-none}
 use Rattle.std.proofs.lemmas.Map.Entries.{option_filter, none_past_head}
 use Rattle.std.proofs.lemmas.Option.{none-some}
+use Rattle.lemmas.proofs.Options.{none_where, cond_none}
 use Rattle.row_images.specs.declared.value.Value.{Value}
 use Rattle.rows.specs.declared.change.Key.{Key}
 use Rattle.rows.specs.Apply.{Rows}
@@ -31,10 +32,6 @@ row_under q es = lookup (key_test q) es
 
 -- ---- options
 
-pub none_if : {A : Type 0} (o : Option A) → ((x : A) → o ≡ Some x → ⊥) → o ≡ None
-none_if None h = refl
-none_if (Some x) h = absurd (h x refl)
-
 pub same_option : {A : Type 0} (a b : Option A) → ((x : A) → a ≡ Some x → b ≡ Some x) → (a ≡ None → b ≡ None) → a ≡ b
 same_option None b h g = sym (g refl)
 same_option (Some x) b h g = sym (h x refl)
@@ -53,10 +50,6 @@ or_some (Some y) b x e = inl e
 or_none : {A : Type 0} (a b : Option A) → option_or a b ≡ None → (a ≡ None) × (b ≡ None)
 or_none None b e = (refl, e)
 or_none (Some y) b e = absurd (none-some y (sym e))
-
-cond_none : {A : Type 0} (b : Bool) (x : A) (o : Option A) → cond b (Some x) o ≡ None → (b ≡ false) × (o ≡ None)
-cond_none true x o e = absurd (none-some x (sym e))
-cond_none false x o e = (refl, e)
 
 -- ---- what is listed of rows
 
@@ -147,7 +140,7 @@ append_apart : (xs ys : List Entry) → IsDistinct key_test (keys_of xs) → IsD
 unfolding IsDistinct
 append_apart [] ys dx dy h = dy
 append_apart (x ∷ xs) ys dx dy h = (
-  both_apart x.0 xs ys dx.0 (none_apart x.0 ys (none_if (row_under x.0 ys) (λ b e. h x.0 x.1 b (first_under x xs) e))),
+  both_apart x.0 xs ys dx.0 (none_apart x.0 ys (none_where (row_under x.0 ys) (λ b e. h x.0 x.1 b (first_under x xs) e))),
   append_apart xs ys dx.1 dy (λ q a b f g. still_some (key_test q x.0) x.1 a (row_under q xs) f (λ r e. h q r b e g)),
 )
 

@@ -6,11 +6,13 @@ use Rattle.std.specs.FinMap.{get, retain_keys, get-retain_keys}
 use Rattle.std.specs.List.{IsDistinct, list_all}
 use Rattle.std.specs.Map.{keys_of}
 use Rattle.std.specs.Map.Iter.{deref_pair}
-use Rattle.std.proofs.lemmas.Bool.{and_parts, and_cases, not-true, not-false, both_ways}
+use Rattle.std.proofs.lemmas.Bool.{and_cases, not-true, not-false, both_ways}
 use Rattle.std.proofs.lemmas.List.Sorted.{IsPermutation-map}
 use Rattle.std.proofs.lemmas.Map.Entries.{option_filter}
 use Rattle.std.proofs.lemmas.Map.Made.{IsDistinct-keys_filter}
-use Rattle.std.proofs.lemmas.Option.{none-some, same_Some, slice_get_cases, slice_get_past, slice_get_within}
+use Rattle.std.proofs.lemmas.Option.{none-some, slice_get_cases, slice_get_past, slice_get_within}
+use Rattle.lemmas.proofs.Options.{none_where as none_if}
+use Rattle.lemmas.proofs.Lists.{all_true}
 use Rattle.row_images.specs.declared.value.Value.{Value}
 use Rattle.row_images.proofs.Equal.{rows-Decide}
 use Rattle.rows.specs.declared.change.Key.{Key}
@@ -23,7 +25,7 @@ use Rattle.rows.proofs.Equal.{key_test}
 use Rattle.rows.proofs.Ordered.{keys_sorted, sorted_entries}
 use Rattle.rows.proofs.Primary.{alike, rows-retained}
 use Rattle.row_parts.specs.Listing.{changed_entries, kept_entries, entries_of, entries_at, joined_before}
-use Rattle.row_parts.proofs.Apart.{row_under, none_if, same_option, filter_some, listed_apart, under_listed, under_filter, from_before, none_before, before_apart}
+use Rattle.row_parts.proofs.Apart.{row_under, same_option, filter_some, listed_apart, under_listed, under_filter, from_before, none_before, before_apart}
 
 -- ---- tests
 
@@ -39,11 +41,6 @@ filter_none t o x s e = failed (t x) x (sym (ap (option_filter t) s) ∙ e) wher
   failed : {A : Type 0} (b : Bool) (x : A) → cond b (Some x) None ≡ None → b ≡ false
   failed true x e = absurd (none-some x (sym e))
   failed false x e = refl
-
-all_at : {A : Type 0} (p : A → Bool) (xs : List A) (i : ℕ) (x : A) → list_all p xs ≡ true → slice_get xs i ≡ Some x → p x ≡ true
-all_at p [] i x e s = absurd (none-some x s)
-all_at p (y ∷ xs) zero x e s = sym (ap p (same_Some y x s)) ∙ (and_parts (p y) (list_all p xs) e).0
-all_at p (y ∷ xs) (suc i) x e s = all_at p xs i x (and_parts (p y) (list_all p xs) e).1 s
 
 one_fails : {A : Type 0} (p : A → Bool) (xs : List A) → list_all p xs ≡ false → (i : ℕ) × (x : A) × (slice_get xs i ≡ Some x) × (p x ≡ false)
 one_fails p [] e = cc
@@ -85,7 +82,7 @@ kept_some opening parts q r e =
     let t : Key × List Value → Bool = λ f. list_all (λ p. same_row (get p f.0) (Some f.1)) parts in
     let f = filter_some (λ x. t (q, x)) (row_under q (entries_listed opening)) r (sym (under_filter t q (entries_listed opening) (listed_apart opening)) ∙ e) in
     let l = listed_some opening q r f.0 in
-    (l.0, l.1, λ i part s. same_row_true (get part q) r (all_at (λ p. same_row (get p q) (Some r)) parts i part f.1 s))
+    (l.0, l.1, λ i part s. same_row_true (get part q) r (all_true (λ p. same_row (get p q) (Some r)) parts i part f.1 s))
 
 kept_none : (opening : Rows) (parts : List Rows) (q : Key) (r : List Value) → row_under q (kept_entries opening parts) ≡ None → is_primary q ≡ true → get opening q ≡ Some r
     → (i : ℕ) × (part : Rows) × (slice_get parts i ≡ Some part) × (get part q ≡ Some r → ⊥)

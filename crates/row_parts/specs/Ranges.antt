@@ -30,7 +30,7 @@ AreListedAt entries lists = (i : ℕ) (list : Listed) → slice_get lists i ≡ 
 abbrev pub cut_from : List Shown → Option ℕ → ℕ
 cut_from list cut = min (unwrap_or cut 0) (length list)
 
--- what is left of a list behind so many cuts
+-- what is left of a list after this many cuts
 abbrev pub left_of : List Shown → List ℕ → ℕ → List Shown
 left_of list cuts zero = list
 left_of list cuts (suc n) = drop (cut_from (left_of list cuts n) (slice_get cuts n)) (left_of list cuts n)
@@ -62,6 +62,6 @@ pub record IsRange (lists : List Listed) (cuts : ℕ → List ℕ) (place : ℕ)
   pub same : IsPermutation (ranges_at lists cuts place) list.entries.items
   pub rising : IsRising list.entries.items
 
--- where each of these lists is in order, so are all of them, one after another
+-- if each of these lists is in order, so are all of them, one after another
 abbrev pub RisesAlong : List Listed → List Shown → Type 0
 RisesAlong lists all = ((i : ℕ) (list : Listed) → slice_get lists i ≡ Some list → IsRising list.entries.items) → IsRising all

@@ -2,10 +2,9 @@
 ghost use Rattle.std.specs.Prelude.{◌≡◌, IfOk, Some};
 ghost use Rattle.std.specs.FinMap as map;
 ghost use Rattle.std.specs.List.{list_all};
-ghost use Rattle.rows.specs.Listing.{all_shown, rows_of, rows_listed};
-ghost use Rattle.rows.specs.Parts.{AreParts};
+ghost use Rattle.rows.specs.Listing.{all_shown};
 ghost use Rattle.rows.specs.Patch.{same_row};
-ghost use Rattle.row_parts.specs.Listing.{changed_entries, entries_at, kept_entries, rows_in_each};
+ghost use Rattle.row_parts.specs.Listing.{changed_entries, entries_at, kept_entries, rows_in_each, ListsWhole};
 
 use crate::ranges::{all_made, merge_beside};
 use rows::{Key, Row, Rows};
@@ -77,7 +76,7 @@ fn list_kept<'a>(
     Ok(list)
 }
 
-/// What the part at a place changed, and behind all parts what is left of the opening rows.
+/// What the part at a place changed, and after all parts what is left of the opening rows.
 fn list_at<'a>(
     alloc: Global,
     opening: &'a Rows,
@@ -94,14 +93,14 @@ fn list_at<'a>(
 }
 
 /// The rows of a whole, of which the opening rows and these parts are known, lent with their primary keys: by table name, and then by the
-/// values of the key. Each part is listed on a thread of its own where one can be started.
+/// values of the key. Each part is listed on a thread of its own if one can be started.
 pub fn list_whole<'a, R: Threads + Sync>(
     rt: &R,
     alloc: Global,
     opening: &'a Rows,
     parts: &'a [Rows],
 ) -> Result<Vec<(&'a Key, &'a Row)>, AllocError>
-    ensures { IfOk result (λ list. (whole : _) → AreParts opening.now.rows (rows_in_each parts.now) whole → rows_of (all_shown list.items) ≡ rows_listed whole) }
+    ensures { IfOk result (λ list. ListsWhole opening.now.rows (rows_in_each parts.now) (all_shown list.items)) }
 {
     let lists = thread::map_indices(
         rt,
@@ -112,6 +111,5 @@ pub fn list_whole<'a, R: Threads + Sync>(
         { list_at(alloc, opening, parts, place) },
     )?;
     let lists = all_made(alloc, lists)?;
-    let list = merge_beside(rt, alloc, &lists)?;
-    Ok(list)
+    merge_beside(rt, alloc, &lists)
 }

@@ -9,10 +9,10 @@ use std::alloc::{AllocError, Global};
 use std::thread;
 use std::thread::Threads;
 
-/// So many ranges are merged side by side.
+/// How many ranges are merged at the same time.
 pub(crate) const RANGES: usize = 4;
 
-/// How many entries come before each cut of a list, behind the cut before.
+/// How many entries of a list lie between each cut and the cut before it.
 pub(crate) type Cuts = [usize; 3];
 
 /// The longest of lists.
@@ -78,7 +78,7 @@ fn cut_at(list: &[(&Key, &Row)], cuts: &[usize], place: usize) -> usize
     }
 }
 
-/// What is left of a list behind so many cuts.
+/// What is left of a list after this many cuts.
 fn left_of<'b, 'a>(
     list: &'b [(&'a Key, &'a Row)],
     cuts: &[usize],
@@ -150,7 +150,7 @@ fn merge_range<'a>(
     Ok(Listed { entries })
 }
 
-/// Each range of all lists, in order, by a thread of its own where one can be started.
+/// Each range of all lists, in order, merged by a thread of its own if one can be started.
 fn merge_ranges<'a, R: Threads + Sync>(
     rt: &R,
     alloc: Global,
@@ -170,7 +170,7 @@ fn merge_ranges<'a, R: Threads + Sync>(
     )
 }
 
-/// Lists that were made, unless one of them was not or memory is refused.
+/// Lists that were made, unless one of them was not or out of memory.
 pub(crate) fn all_made<'a>(
     alloc: Global,
     found: Vec<Result<Listed<'a>, AllocError>>,
@@ -195,7 +195,7 @@ fn follows(before: &[(&Key, &Row)], list: &[(&Key, &Row)]) -> bool
     !first.0.cmp(last.0).is_lt()
 }
 
-/// Puts a list behind others; whether its first key is not below the last one there.
+/// Appends a list to others; returns whether its first key is not below the last one there.
 fn put_behind<'a>(
     all: &mut Vec<(&'a Key, &'a Row)>,
     list: &[(&'a Key, &'a Row)],
@@ -208,7 +208,7 @@ fn put_behind<'a>(
     Ok(rises)
 }
 
-/// Lists one after another; whether each begins behind those before it.
+/// The lists one after another; and whether each begins after those before it.
 pub(crate) fn put_along<'a>(
     all: &mut Vec<(&'a Key, &'a Row)>,
     lists: &[Listed<'a>],
@@ -242,7 +242,7 @@ fn join_ranges<'a>(
     Ok(all)
 }
 
-/// The entries of lists, in order: merged by ranges of keys, each by a thread of its own where one can be started.
+/// The entries of lists, in order: merged by ranges of keys, each by a thread of its own if one can be started.
 pub(crate) fn merge_beside<'a, R: Threads + Sync>(
     rt: &R,
     alloc: Global,
@@ -254,6 +254,5 @@ pub(crate) fn merge_beside<'a, R: Threads + Sync>(
     let cuts = cut_all(alloc, lists)?;
     let found = merge_ranges(rt, alloc, lists, &cuts)?;
     let ranges = all_made(alloc, found)?;
-    let all = join_ranges(alloc, &ranges)?;
-    Ok(all)
+    join_ranges(alloc, &ranges)
 }

@@ -25,9 +25,9 @@ use Rattle.rows.specs.WriteSet.{is_among, left_by_change, or_earlier, left_by_ch
 use Rattle.rows.proofs.Equal.{tables-Decide}
 use Rattle.rows.proofs.Local.{after_apply}
 use Rattle.rows.proofs.Carriers.{carried_table, apply_keeps_carriers, no_carriers}
-use Rattle.rows.proofs.Lists.{none_some}
 use Rattle.std.proofs.lemmas.Option.{same_Some}
 use Rattle.std.proofs.lemmas.Bool.{and_parts, and_from}
+use Rattle.lemmas.proofs.Options.{none_some}
 
 some_by : (p : Bool) (a b : Misfit) → cond p (Some a) (Some b) ≡ None → ⊥
 some_by true a b e = cc

@@ -1,5 +1,5 @@
 -- A row that is put under free keys, one after another.
-use Rattle.std.proofs.Common.{◌≡◌, ℕ, suc, ◌+◌, Bool, true, false, cond, not, ◌||◌, ◌<◌, ◌≤◌, length, take, get_or, List, [], ◌∷◌, ◌++◌, Option, Some, None, Ok, refl, sym, ap, ◌∙◌, inl, inr, append_assoc, arith}
+use Rattle.std.proofs.Common.{◌≡◌, ℕ, suc, ◌+◌, Bool, true, false, cond, not, ◌||◌, ◌<◌, length, take, get_or, List, [], ◌∷◌, ◌++◌, Option, Some, None, Ok, refl, sym, ap, ◌∙◌, inl, inr, append_assoc, arith}
 use Rattle.std.specs.List.{list_any, position_or_len}
 use Rattle.std.specs.Map.{lookup, keys_of}
 use Rattle.std.specs.FinMap.{get}
@@ -8,6 +8,8 @@ use Rattle.std.proofs.Math.Nat.{min-eq_left}
 use Rattle.std.proofs.lemmas.List.{take_more, length-take}
 use Rattle.std.proofs.lemmas.Bool.{or_cases}
 use Rattle.std.proofs.lemmas.Option.{same_Some}
+use Rattle.lemmas.proofs.Options.{none_some}
+use Rattle.lemmas.proofs.Numbers.{less_le}
 use Rattle.indexmap.specs.IndexMap.{insert_entry, set_value_at}
 use Rattle.row_images.specs.declared.value.Value.{Value}
 use Rattle.row_images.specs.Values.{is_null}
@@ -19,7 +21,6 @@ use Rattle.rows.specs.Making.{IsPut, Extends}
 use Rattle.rows.specs.WriteSet.{is_among}
 use Rattle.rows.proofs.Carriers.{all_free}
 use Rattle.rows.proofs.Equal.{key_test}
-use Rattle.rows.proofs.Lists.{none_some}
 use Rattle.rows.proofs.Local.{same_rows, get-with_row}
 use Rattle.rows.proofs.Patching.{Carrier}
 use Rattle.rows.proofs.Replacing.{taken_of_free}
@@ -79,14 +80,11 @@ uniques_append name n m (x ∷ xs) ys row e =
     let later = uniques_append name (n + 1) m xs ys row (omega (arith, e)) in
     ap (λ ks. cond b ks (k ∷ ks)) later ∙ skipped b k (unique_keys name (n + 1) xs row) (unique_keys name m ys row)
 
-le_of_lt : (a b : ℕ) → a < b → a ≤ b
-le_of_lt a b lt = omega (arith, lt)
-
 pub uniques_taken : (name : List ℕ) (i : ℕ) (columns : List (List ℕ)) (c : List ℕ) (row : List Value) → i < length columns → c ≡ get_or columns i c
     → unique_keys name 1 (take (i + 1) columns) row ≡ unique_keys name 1 (take i columns) row ++ unique_keys name (i + 1) (c ∷ []) row
 uniques_taken name i columns c row lt is =
     ap (λ (cs : List (List ℕ)). unique_keys name 1 cs row) (take_more columns i c lt ∙ ap (λ (x : List ℕ). take i columns ++ x ∷ []) (sym is))
-    ∙ uniques_append name 1 (i + 1) (take i columns) (c ∷ []) row (omega (arith, length-take i columns, min-eq_left (le_of_lt i (length columns) lt)))
+    ∙ uniques_append name 1 (i + 1) (take i columns) (c ∷ []) row (omega (arith, length-take i columns, min-eq_left (less_le i (length columns) lt)))
 
 -- ---- entries
 

@@ -3,6 +3,7 @@ use Rattle.std.proofs.Common.{◌≡◌, ◌≢◌, ℕ, pos, Bool, true, false,
 use Rattle.std.specs.FinMap as map
 use Rattle.std.specs.FinMap.{get-empty, get-insert, get-remove}
 use Rattle.std.proofs.lemmas.List.Sorted.{IsPermutation-append_comm}
+use Rattle.lemmas.proofs.Options.{none_some}
 use Rattle.row_images.specs.declared.value.Value.{Value}
 use Rattle.row_images.specs.declared.value.Value.TheVariants.{Int}
 use Rattle.row_images.specs.Order.{row_eq}
@@ -16,7 +17,6 @@ use Rattle.rows.specs.declared.schema.Table.{Table}
 use Rattle.rows.specs.Order.{key_cmp, key_eq}
 use Rattle.rows.specs.Total.{key_total}
 use Rattle.rows.specs.Apply.{Rows, ◌>>=◌, apply, apply_from, insert_row, insert_if_free, delete_if_same, or_else}
-use Rattle.rows.proofs.Lists.{none_some}
 use Rattle.rows.proofs.Carriers.{apply_keeps_carriers, no_carriers}
 use Rattle.rows.specs.Counting.{apply_each}
 use Rattle.rows.specs.SharedOrders.{accounts, account, key_of, goes, one_account, by_twenty, by_thirty, SharedOrdersExist, CarriersAreNeeded, unique_accounts, opens, closes}

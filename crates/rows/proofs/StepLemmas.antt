@@ -10,8 +10,8 @@ use Rattle.indexmap.proofs.MapLemmas.{swap_remove_entry-found}
 use Rattle.indexmap.specs.IndexMap.{insert_entry, set_value_at, swap_remove_entry}
 use Rattle.row_images.specs.declared.value.Value.{Value}
 use Rattle.rows.specs.declared.change.Key.{Key}
-use Rattle.rows.specs.declared.steps.Step.{Step}
-use Rattle.rows.specs.declared.steps.Step.TheVariants.{Removed}
+use Rattle.rows.specs.declared.steps.EntryStep.{EntryStep}
+use Rattle.rows.specs.declared.steps.EntryStep.TheVariants.{Removed}
 use Rattle.rows.specs.Steps.{Entries, moved_last, undone, all_undone, step_of}
 use Rattle.rows.proofs.Equal.{key_test}
 use Rattle.rows.proofs.Placed.{set_back}
@@ -22,11 +22,11 @@ set_past [] i row le = refl
 set_past (e ∷ es) zero row le = absurd (omega (arith, le))
 set_past (e ∷ es) (suc i) row le = ap (λ (l : Entries). e ∷ l) (set_past es i row (omega (arith, le)))
 
-pub all_undone_last : (log : List Step) (step : Step) (es : Entries) → all_undone (log ++ step ∷ []) es ≡ all_undone log (undone step es)
+pub all_undone_last : (log : List EntryStep) (step : EntryStep) (es : Entries) → all_undone (log ++ step ∷ []) es ≡ all_undone log (undone step es)
 all_undone_last [] step es = refl
 all_undone_last (s ∷ log) step es = ap (undone s) (all_undone_last log step es)
 
-pub one_fewer : (log rest : List Step) (s : Step) → log ≡ rest ++ s ∷ [] → length log ≡ length rest + 1
+pub one_fewer : (log rest : List EntryStep) (s : EntryStep) → log ≡ rest ++ s ∷ [] → length log ≡ length rest + 1
 one_fewer log rest s e = ap length e ∙ length-append rest (s ∷ [])
 
 -- ---- what was put

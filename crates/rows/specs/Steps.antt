@@ -12,8 +12,8 @@ use Rattle.rows.specs.Order.{key_cmp}
 use Rattle.rows.specs.Keys.{values_in}
 use Rattle.rows.specs.declared.schema.Table.{Table}
 use Rattle.rows.specs.Apply.{Rows, with_row, first_taken}
-use Rattle.rows.specs.declared.steps.Step.{Step}
-use Rattle.rows.specs.declared.steps.Step.TheVariants.{Added, Wrote, Removed}
+use Rattle.rows.specs.declared.steps.EntryStep.{EntryStep}
+use Rattle.rows.specs.declared.steps.EntryStep.TheVariants.{Added, Wrote, Removed}
 use Rattle.rows.specs.declared.steps.Expected.{Expected}
 use Rattle.rows.specs.declared.steps.Expected.TheVariants.{Nothing, This, Anything}
 
@@ -32,18 +32,18 @@ abbrev pub moved_last : ℕ → Entries → Entries
 moved_last place es = if nat_lt place (length es) then swap es place (length es - 1) else es
 
 -- the entries without a step
-abbrev pub undone : Step → Entries → Entries
+abbrev pub undone : EntryStep → Entries → Entries
 undone Added es = take (length es - 1) es
 undone (Wrote place row) es = set_value_at es place row
 undone (Removed place key row) es = moved_last place (insert_entry same_key es key row)
 
 -- and without all of them, the last first
-abbrev pub all_undone : List Step → Entries → Entries
+abbrev pub all_undone : List EntryStep → Entries → Entries
 all_undone [] es = es
 all_undone (step ∷ log) es = undone step (all_undone log es)
 
 -- what an insert did that found this place, and a row there or none
-abbrev pub step_of : ℕ → Option (List Value) → Step
+abbrev pub step_of : ℕ → Option (List Value) → EntryStep
 step_of place None = Added
 step_of place (Some row) = Wrote place row
 

@@ -22,7 +22,7 @@ has_column_lists table = is_column_list table.primary && list_all is_column_list
 abbrev pub is_within_limits : Table → Bool
 is_within_limits table = nat_le 1 table.columns && nat_le table.columns 64 && nat_le (length table.uniques) 8
 
--- each column of a list is one of so many
+-- each column of a list is one of this many
 abbrev pub are_below : ℕ → List ℕ → Bool
 are_below count columns = list_all (λ c. nat_lt c count) columns
 

@@ -30,7 +30,7 @@ pub fn shared_orders_exist()
     ensures { SharedOrdersExist }
 {}
 
-/// Of rows that are no rows of tables the law is false.
+/// Without the premise that the first rows are rows of tables the law is false.
 pub fn carriers_are_needed()
     ensures { CarriersAreNeeded }
 {}

@@ -14,7 +14,7 @@ use crate::change::{Change, Key};
 use crate::keys::{keeps_keys, key_values};
 use crate::name::Name;
 use crate::schema::{Columns, Schema, Table};
-use crate::steps::{Expected, Step, put, remove, take_all_back};
+use crate::steps::{EntryStep, Expected, put, remove, take_all_back};
 use key_table::KeyTable;
 use row_images::{KeyValues, Row};
 use std::alloc::Global;
@@ -36,7 +36,7 @@ fn key_of(name: &Name, index: u32, values: KeyValues) -> Option<Key>
 /// Puts a row under the key of these values.
 fn put_values(
     carriers: &mut KeyTable<Key, Row>,
-    log: &mut Vec<Step>,
+    log: &mut Vec<EntryStep>,
     name: &Name,
     index: u32,
     values: KeyValues,
@@ -57,10 +57,10 @@ fn put_values(
     put(carriers, log, key, own, expected)
 }
 
-/// Takes away what is under the key of these values.
+/// Removes what is under the key of these values.
 fn remove_values(
     carriers: &mut KeyTable<Key, Row>,
-    log: &mut Vec<Step>,
+    log: &mut Vec<EntryStep>,
     name: &Name,
     index: u32,
     values: KeyValues,
@@ -92,7 +92,7 @@ fn expected_if(free: bool) -> Expected<'static>
 fn put_under_primary(
     alloc: Global,
     carriers: &mut KeyTable<Key, Row>,
-    log: &mut Vec<Step>,
+    log: &mut Vec<EntryStep>,
     table: &Table,
     image: &Row,
     row: &Row,
@@ -113,7 +113,7 @@ fn put_under_primary(
 fn put_under_unique(
     alloc: Global,
     carriers: &mut KeyTable<Key, Row>,
-    log: &mut Vec<Step>,
+    log: &mut Vec<EntryStep>,
     name: &Name,
     index: u32,
     columns: &Columns,
@@ -138,7 +138,7 @@ fn put_under_unique(
 fn put_under_uniques(
     alloc: Global,
     carriers: &mut KeyTable<Key, Row>,
-    log: &mut Vec<Step>,
+    log: &mut Vec<EntryStep>,
     table: &Table,
     image: &Row,
     row: &Row,
@@ -172,7 +172,7 @@ fn put_under_uniques(
 fn put_under_each(
     alloc: Global,
     carriers: &mut KeyTable<Key, Row>,
-    log: &mut Vec<Step>,
+    log: &mut Vec<EntryStep>,
     table: &Table,
     image: &Row,
     row: &Row,
@@ -192,11 +192,11 @@ fn put_under_each(
     put_under_uniques(alloc, carriers, log, table, image, row, free)
 }
 
-/// Takes away what is under a unique key of a row, unless that has a null.
+/// Removes what is under a unique key of a row, unless that has a null.
 fn remove_unique(
     alloc: Global,
     carriers: &mut KeyTable<Key, Row>,
-    log: &mut Vec<Step>,
+    log: &mut Vec<EntryStep>,
     name: &Name,
     index: u32,
     columns: &Columns,
@@ -215,11 +215,11 @@ fn remove_unique(
     remove_values(carriers, log, name, index, values, Expected::Anything)
 }
 
-/// Takes away what is under the unique keys of a row, in order.
+/// Removes what is under the unique keys of a row, in order.
 fn remove_uniques(
     alloc: Global,
     carriers: &mut KeyTable<Key, Row>,
-    log: &mut Vec<Step>,
+    log: &mut Vec<EntryStep>,
     table: &Table,
     row: &Row,
 ) -> bool
@@ -245,11 +245,11 @@ fn remove_uniques(
     true
 }
 
-/// Takes away an equal row under the primary key of this one.
+/// Removes an equal row under the primary key of this one.
 fn remove_primary(
     alloc: Global,
     carriers: &mut KeyTable<Key, Row>,
-    log: &mut Vec<Step>,
+    log: &mut Vec<EntryStep>,
     table: &Table,
     row: &Row,
 ) -> bool
@@ -268,7 +268,7 @@ fn remove_primary(
 fn insert(
     alloc: Global,
     carriers: &mut KeyTable<Key, Row>,
-    log: &mut Vec<Step>,
+    log: &mut Vec<EntryStep>,
     schema: &Schema,
     name: &Name,
     row: &Row,
@@ -296,7 +296,7 @@ fn insert(
 fn delete(
     alloc: Global,
     carriers: &mut KeyTable<Key, Row>,
-    log: &mut Vec<Step>,
+    log: &mut Vec<EntryStep>,
     schema: &Schema,
     name: &Name,
     row: &Row,
@@ -318,7 +318,7 @@ fn delete(
 fn replace(
     alloc: Global,
     carriers: &mut KeyTable<Key, Row>,
-    log: &mut Vec<Step>,
+    log: &mut Vec<EntryStep>,
     schema: &Schema,
     name: &Name,
     before: &Row,
@@ -347,7 +347,7 @@ fn replace(
 fn update(
     alloc: Global,
     carriers: &mut KeyTable<Key, Row>,
-    log: &mut Vec<Step>,
+    log: &mut Vec<EntryStep>,
     schema: &Schema,
     name: &Name,
     before: &Row,
@@ -370,7 +370,7 @@ fn update(
 fn make(
     alloc: Global,
     carriers: &mut KeyTable<Key, Row>,
-    log: &mut Vec<Step>,
+    log: &mut Vec<EntryStep>,
     schema: &Schema,
     change: &Change,
 ) -> bool
@@ -393,7 +393,7 @@ fn make(
 fn make_in_turn(
     alloc: Global,
     carriers: &mut KeyTable<Key, Row>,
-    log: &mut Vec<Step>,
+    log: &mut Vec<EntryStep>,
     schema: &Schema,
     changes: &[Change],
 ) -> bool

@@ -107,7 +107,7 @@ impl KeyMap {
         }
     }
 
-    /// Puts a row in the place of the one under a key, if there is one. Does not allocate.
+    /// Replaces the row under a key, if there is one. It does not allocate.
     pub(crate) fn put_over(&mut self, key: &Key, row: Row)
         ensures { self.new ≡ put_over key.now row self.old }
     {
@@ -126,7 +126,7 @@ impl KeyMap {
         self.put_at(key, row)
     }
 
-    /// Takes away what is stored under a key.
+    /// Removes what is stored under a key.
     pub(crate) fn take_at(&mut self, key: &Key)
         ensures { self.new ≡ map.remove self.old key.now }
     {
@@ -141,7 +141,7 @@ impl KeyMap {
         put_under_all(&mut self.carriers, keys, row)
     }
 
-    /// Takes away what is stored under each of these keys.
+    /// Removes what is stored under each of these keys.
     fn clear(&mut self, keys: &[Key])
         ensures { self.new ≡ without_keys keys.now self.old }
     {
@@ -221,7 +221,7 @@ impl KeyMap {
         put_if_free(alloc, &mut self.carriers, schema, table, row)
     }
 
-    /// Puts a row of a table under its keys, if each of them is free. The key that is taken is looked for only where one is.
+    /// Puts a row of a table under its keys, if each of them is free. Which key is taken is searched for only if one is.
     pub(crate) fn insert_image(
         &mut self,
         alloc: Global,
@@ -240,7 +240,7 @@ impl KeyMap {
         self.insert_by_list(alloc, schema, change, table, row)
     }
 
-    /// Takes away the row of a table under its keys, if it is there.
+    /// Removes the row of a table under its keys, if it is there.
     pub(crate) fn delete_image(
         &mut self,
         alloc: Global,
@@ -281,7 +281,7 @@ impl KeyMap {
         }
     }
 
-    /// Makes an update alone, or not at all. Where its keys stay, the after image is put over the row.
+    /// Makes a single update, wholly or not at all. If its keys stay, the after image is written over the row.
     pub(crate) fn update_image(
         &mut self,
         alloc: Global,
@@ -342,7 +342,7 @@ impl KeyMap {
         make_all_in_place(alloc, &mut self.carriers, schema, changes)
     }
 
-    /// Makes changes in order, wholly or not at all. Why one can't be made is looked for only where one can't.
+    /// Makes changes in order, wholly or not at all. The cause is searched for only if one can't be made.
     pub(crate) fn make_all(
         &mut self,
         alloc: Global,

@@ -25,7 +25,7 @@ fn primaries<'a>(
     Ok(list)
 }
 
-/// Whether rows are of one table: then the values of their keys put them in order.
+/// Whether rows are of one table: then the values of their keys decide their order.
 fn are_of_one_table(list: &[(&Key, &Row)]) -> bool {
     let [first, others @ ..] = list else {
         return true;
@@ -72,9 +72,9 @@ fn sort_anew(list: &mut Vec<(&Key, &Row)>) -> Result<(), AllocError>
     Ok(())
 }
 
-/// Puts rows, lent with their keys, in the order of the keys: by table name, and then by the values. Of rows of one table no names are
-/// compared more than once, and where rows are some lists one after another, each in order, these are merged. After a failed allocation
-/// the same rows are in some order.
+/// Puts rows, lent with their keys, in the order of the keys: by table name, and then by the values. If the rows are of one table, no name
+/// is compared more than once; if they are a few lists one after another, each in order, these are merged. After a failed allocation the
+/// same rows are in some order.
 pub fn sort_by_keys(list: &mut Vec<(&Key, &Row)>) -> Result<(), AllocError>
     ensures same { IsPermutation list.old.items list.new.items }
     ensures sorted { OnOk result (IsSortedByKey key_shown key_cmp list.new.items) }
@@ -121,6 +121,5 @@ pub(crate) fn list_primary(
     ensures { IfOk result (λ list. list.items ≡ rows_listed (map.from_entries carriers.now.entries)) }
 {
     let list = sort_primary(alloc, carriers)?;
-    let rows = to_table_rows(alloc, &list)?;
-    Ok(rows)
+    to_table_rows(alloc, &list)
 }

@@ -72,7 +72,7 @@ pub(crate) fn put_in_room(carriers: &mut KeyTable<Key, Row>, key: Key, row: Row)
     over
 }
 
-/// Takes away what is stored under a key, and gives it back.
+/// Removes what is stored under a key, and returns it.
 fn take_out(carriers: &mut KeyTable<Key, Row>, key: &Key) -> Option<Row>
     ensures rows { map.from_entries {R = key_cmp} carriers.new.entries ≡ map.remove (map.from_entries carriers.old.entries) key.now }
     ensures over { result ≡ map.get (map.from_entries {R = key_cmp} carriers.old.entries) key.now }
@@ -180,7 +180,7 @@ impl Making {
         Ok(())
     }
 
-    /// Takes away what is stored under a key.
+    /// Removes what is stored under a key.
     fn take(&mut self, key: Key) -> Result<(), AllocError>
         ensures ok { OnOk result (self.new.made ≡ map.remove self.old.made key) }
         ensures before { self.new.before ≡ self.old.before }
@@ -204,7 +204,7 @@ impl Making {
         Ok(())
     }
 
-    /// Takes away what is stored under each of these keys, the last first.
+    /// Removes what is stored under each of these keys, the last first.
     fn clear(&mut self, keys: &mut Vec<Key>) -> Result<(), AllocError>
         ensures ok { OnOk result (self.new.made ≡ without_keys keys.old.items self.old.made) }
         ensures none { OnOk result (keys.new.items ≡ []) }
@@ -237,7 +237,7 @@ impl Making {
         }
     }
 
-    /// Takes away a row under its keys, if it is there.
+    /// Removes a row under its keys, if it is there.
     fn delete_row(
         &mut self,
         keys: &mut Vec<Key>,
@@ -325,7 +325,7 @@ impl Making {
         }
     }
 
-    /// Puts a row of a table in the place of another. Where the keys stay, they are made once.
+    /// Puts a row of a table in the place of another. If the keys stay, they are made once.
     fn update_image(
         &mut self,
         alloc: Global,
@@ -353,7 +353,7 @@ impl Making {
         }
     }
 
-    /// Makes one change. The list of keys is empty before it, and after it where it is made.
+    /// Makes one change. The list of keys is empty before it, and after it if the change was made.
     fn make(
         &mut self,
         alloc: Global,

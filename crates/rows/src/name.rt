@@ -145,7 +145,7 @@ impl Name {
 /// Why a text gave no name.
 #[derive(Clone, Copy, Debug, Drop, PartialEq, Eq, thiserror::Error)]
 pub enum NameFault {
-    /// Memory was refused.
+    /// Out of memory.
     #[error("out of memory")]
     Memory,
     /// The text is no name.

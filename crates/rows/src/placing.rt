@@ -24,7 +24,7 @@ fn put_back(carriers: &mut KeyTable<Key, Row>, place: usize, row: Row)
     carriers.replace_at(place, row);
 }
 
-/// Puts a row under a key after all others, if the key is free and there is memory. The result is whether it was put.
+/// Appends a row under a key, if the key is free and there is memory; returns whether it did.
 fn push_under(carriers: &mut KeyTable<Key, Row>, key: Key, row: Row) -> bool
     ensures put { result ≡ true → IsPut (key ∷ []) row (map.from_entries {R = key_cmp} carriers.old.entries) (map.from_entries carriers.new.entries) }
     ensures after { Extends carriers.old.entries carriers.new.entries }

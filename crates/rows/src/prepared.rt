@@ -1,4 +1,4 @@
-//! Transactions that are prepared beside the rows, and installed where the rows that they saw are unchanged.
+//! Transactions that are prepared without a lock on the rows, and installed if the rows that they saw are unchanged.
 
 ghost use Rattle.std.specs.Prelude.{◌≡◌, IfOk};
 ghost use Rattle.rows.specs.Apply.{apply};

@@ -123,8 +123,7 @@ impl Rows {
         ensures rows { IfOk result (λ list. rows_of (all_shown list.items) ≡ rows_listed self.now.rows) }
         ensures keys { IfOk result (λ list. all_shown list.items ≡ entries_listed self.now.rows) }
     {
-        let list = self.carriers.lent_primary(alloc)?;
-        Ok(list)
+        self.carriers.lent_primary(alloc)
     }
 
     /// The same rows, whose values both share.
@@ -136,8 +135,8 @@ impl Rows {
         Ok(Rows { schema, carriers })
     }
 
-    /// The same rows, whose values both share, in tables whose names are in memory of their own. Where two threads change rows, each a copy,
-    /// the counts of owners of names that they shared would be written by both.
+    /// The same rows, whose values both share, in tables whose names are in memory of their own. If two threads changed copies that share
+    /// names, both would write the reference counts of the names.
     pub fn copy_apart(&self, alloc: Global) -> Result<Rows, AllocError>
         ensures { IfOk result (λ copy. copy ≡ self.now) }
     {
@@ -158,7 +157,7 @@ impl Rows {
         self.schema.is_equal(&other.schema) && self.carriers.is_equal(&other.carriers)
     }
 
-    /// Applies a transaction that the schema takes, wholly or not at all. This is not tested again.
+    /// Applies a transaction that the schema takes, wholly or not at all. Whether the schema takes it is not tested again.
     pub fn apply_fitting(&mut self, alloc: Global, txn: &Transaction) -> Result<(), PrepareFault>
         requires { Fits self.old.schema txn.now }
         ensures ok { OnOk result (apply self.old.schema txn.now self.old.rows ≡ Ok self.new.rows) }

@@ -1,5 +1,5 @@
-//! Changes that are made in place, with a way back by places, which does not allocate. No key is kept for what is added or
-//! written over, and each key is looked for once.
+//! Changes that are made in place, with a way back by places, which does not allocate. No key is kept for what is added or written over,
+//! and each key is looked up once.
 ghost use Rattle.std.specs.Prelude.{◌≡◌, ◌≤◌, ◌<◌, ◌+◌, ◌++◌, ◌∷◌, [], ℕ, true, length, None, Some, Ok, OnOk};
 ghost use Rattle.std.specs.FinMap as map;
 ghost use Rattle.std.specs.Vec.{vec_capacity};
@@ -13,7 +13,7 @@ use std::alloc::AllocError;
 
 /// What was done to the entries of a table.
 #[derive(Drop)]
-pub(crate) enum Step {
+pub(crate) enum EntryStep {
     /// An entry came after all others.
     Added,
     /// At this place another row took the place of this one.
@@ -59,7 +59,7 @@ fn move_last(carriers: &mut KeyTable<Key, Row>, place: usize)
 /// Puts a removed entry back.
 fn put_entry(carriers: &mut KeyTable<Key, Row>, place: usize, key: Key, row: Row)
     requires { 0 < spare carriers.old }
-    ensures entries { carriers.new.entries ≡ undone (Step.Removed place key row) carriers.old.entries }
+    ensures entries { carriers.new.entries ≡ undone (EntryStep.Removed place key row) carriers.old.entries }
     ensures spare { spare carriers.old ≤ spare carriers.new + 1 }
 {
     let Ok(_over) = carriers.insert(key, row) else {
@@ -69,24 +69,24 @@ fn put_entry(carriers: &mut KeyTable<Key, Row>, place: usize, key: Key, row: Row
 }
 
 /// Takes a step back.
-fn take_back(carriers: &mut KeyTable<Key, Row>, step: Step)
+fn take_back(carriers: &mut KeyTable<Key, Row>, step: EntryStep)
     requires { 0 < spare carriers.old }
     ensures entries { carriers.new.entries ≡ undone step carriers.old.entries }
     ensures spare { spare carriers.old ≤ spare carriers.new + 1 }
 {
     match step {
-        Step::Added => {
+        EntryStep::Added => {
             carriers.pop();
         }
-        Step::Wrote(place, row) => write_at(carriers, place, row),
-        Step::Removed(place, key, row) => put_entry(carriers, place, key, row),
+        EntryStep::Wrote(place, row) => write_at(carriers, place, row),
+        EntryStep::Removed(place, key, row) => put_entry(carriers, place, key, row),
     }
 }
 
 /// Takes all steps back, the last first.
 #[cold]
 #[inline(never)]
-pub(crate) fn take_all_back(carriers: &mut KeyTable<Key, Row>, log: Vec<Step>)
+pub(crate) fn take_all_back(carriers: &mut KeyTable<Key, Row>, log: Vec<EntryStep>)
     requires { length log.items ≤ spare carriers.old }
     ensures { carriers.new.entries ≡ all_undone log.items carriers.old.entries }
 {
@@ -114,7 +114,7 @@ fn is_expected(over: &Option<Row>, expected: Expected<'_>) -> bool
 
 /// Room for one more step, and for what takes it back.
 #[inline(always)]
-fn make_room(carriers: &mut KeyTable<Key, Row>, log: &mut Vec<Step>) -> Result<(), AllocError>
+fn make_room(carriers: &mut KeyTable<Key, Row>, log: &mut Vec<EntryStep>) -> Result<(), AllocError>
     ensures entries { carriers.new.entries ≡ carriers.old.entries }
     ensures log { log.new.items ≡ log.old.items }
     ensures spare { spare carriers.old ≤ spare carriers.new }
@@ -126,17 +126,17 @@ fn make_room(carriers: &mut KeyTable<Key, Row>, log: &mut Vec<Step>) -> Result<(
 }
 
 /// What an insert did that found this place, and a row there or none.
-fn step_of(place: usize, over: Option<Row>) -> Step
+fn step_of(place: usize, over: Option<Row>) -> EntryStep
     ensures { result ≡ step_of place over }
 {
     match over {
-        Some(row) => Step::Wrote(place, row),
-        None => Step::Added,
+        Some(row) => EntryStep::Wrote(place, row),
+        None => EntryStep::Added,
     }
 }
 
 /// Notes a step.
-fn note(log: &mut Vec<Step>, step: Step)
+fn note(log: &mut Vec<EntryStep>, step: EntryStep)
     requires { length log.old.items < vec_capacity log.old }
     ensures { log.new.items ≡ log.old.items ++ step ∷ [] }
 {
@@ -146,7 +146,7 @@ fn note(log: &mut Vec<Step>, step: Step)
 /// Puts a row under a key. The result is whether an expected row was there, and there was memory.
 pub(crate) fn put(
     carriers: &mut KeyTable<Key, Row>,
-    log: &mut Vec<Step>,
+    log: &mut Vec<EntryStep>,
     key: Key,
     row: Row,
     expected: Expected<'_>,
@@ -167,10 +167,10 @@ pub(crate) fn put(
     is_found
 }
 
-/// Takes away what is under a key. The result is whether an expected row was there, and there was memory.
+/// Removes what is under a key. The result is whether an expected row was there, and there was memory.
 pub(crate) fn remove(
     carriers: &mut KeyTable<Key, Row>,
-    log: &mut Vec<Step>,
+    log: &mut Vec<EntryStep>,
     key: &Key,
     expected: Expected<'_>,
 ) -> bool
@@ -186,7 +186,7 @@ pub(crate) fn remove(
         return is_expected(&None, expected);
     };
     let is_found = matches_row(&row, expected);
-    note(log, Step::Removed(place, key, row));
+    note(log, EntryStep::Removed(place, key, row));
     is_found
 }
 

@@ -9,7 +9,7 @@ use crate::schema::Table;
 use std::alloc::AllocError;
 use std::cmp::Ordering;
 
-/// So many tables are looked at one by one; more are kept in order. Our own rule.
+/// Up to this many tables are searched one by one; more are kept in order. Our own rule.
 const FEW: usize = 4;
 
 /// The table of a name, found by binary search among those whose places are in order.
@@ -40,7 +40,7 @@ pub(crate) fn search_by_halves<'a>(
     None
 }
 
-/// The table of a name. Each table is looked at.
+/// The table of a name. Each table is compared.
 pub(crate) fn from_the_first<'a>(tables: &'a [Table], name: &Name) -> Option<&'a Table>
     ensures { option_copied result ≡ find_table name.now tables.now }
 {
@@ -68,7 +68,7 @@ fn count_before(tables: &[Table], order: &[usize], name: &Name) -> usize
     low
 }
 
-/// The places of these tables and of one more after them, in order; of few tables none.
+/// The places of these tables and of one more after them, in order; none if there are few tables.
 pub(crate) fn order_with(
     tables: &Vec<Table>,
     order: &Vec<usize>,

@@ -3,9 +3,10 @@ use Rattle.std.proofs.Common.{◌≡◌, ℕ, ◌+◌, Bool, true, false, ◌&&�
 use Rattle.std.specs.Prelude.{nat_le, Ok, if◌then◌else◌}
 use Rattle.std.specs.FinSet as set
 use Rattle.std.proofs.lemmas.Bool.Decides.{nat_tests}
+use Rattle.lemmas.proofs.SameGtid.{gtid_total}
+use Rattle.lemmas.proofs.Tests.{or_none}
 use Rattle.gtid_text.specs.Gtids.{gtid_cmp}
 use Rattle.gtid_text.specs.declared.Gtid.{Gtid}
-use Rattle.gtid_text.proofs.SameGtid.{gtid_total}
 use Rattle.gtid_set.specs.Sets.{Gtids}
 use Rattle.gtid_report.specs.SetAnswers.{◌>>=◌, small}
 use Rattle.server_states.specs.Servers.{ServerValue}
@@ -40,10 +41,6 @@ one_more a h s n e = grind (arith, nat_tests)
 two_more : (n : ℕ) → (nat_le 2 n || (nat_le 1 n && true)) ≡ nat_le 2 (n + 1)
 two_more n = grind (arith, nat_tests)
 
-or_false : (a : Bool) → (a || false) ≡ a
-or_false true = refl
-or_false false = refl
-
 and_false : (a b : Bool) → (a || (b && false)) ≡ a
 and_false true b = refl
 and_false false true = refl
@@ -57,7 +54,7 @@ stepped t s u g n true c j e =
     }
 stepped t s u g n false c j e =
     record {
-      all = ap (λ x. set.contains x g) j.all ∙ set.contains-union gtid_total t.all s g ∙ (λ i. c.all i || e i) ∙ or_false (nat_le 1 n);
+      all = ap (λ x. set.contains x g) j.all ∙ set.contains-union gtid_total t.all s g ∙ (λ i. c.all i || e i) ∙ or_none (nat_le 1 n);
       shared = ap (λ x. set.contains x g) j.shared ∙ set.contains-union gtid_total t.shared (set.intersection t.all s) g ∙ ap (λ x. set.contains t.shared g || x) (set.contains-intersection gtid_total t.all s g) ∙ (λ i. c.shared i || (c.all i && e i)) ∙ and_false (nat_le 2 n) (nat_le 1 n);
     }
 

@@ -4,10 +4,12 @@ use Rattle.std.specs.Prelude.{nat_le, Ok}
 use Rattle.std.specs.List.{list_any, list_all}
 use Rattle.std.specs.FinSet as set
 use Rattle.std.proofs.lemmas.Bool.Decides.{nat_tests}
+use Rattle.std.proofs.lemmas.Bool.{or_left, or_right}
+use Rattle.lemmas.proofs.SameGtid.{gtid_total}
+use Rattle.lemmas.proofs.Tests.{or_flat, or_false}
 use Rattle.gtid_text.specs.Gtids.{gtid_cmp}
 use Rattle.gtid_text.specs.declared.Gtid.{Gtid}
 use Rattle.gtid_text.specs.declared.Span.{Span}
-use Rattle.gtid_text.proofs.SameGtid.{gtid_total}
 use Rattle.gtid_set.specs.Sets.{Gtids, gtid, interval, covers}
 use Rattle.gtid_set.specs.Spans.{has, is_merged, is_before}
 use Rattle.gtid_set.specs.Runs.{runs}
@@ -21,22 +23,14 @@ use Rattle.server_states.proofs.Kept.{made, same_ok, small_kept, whole_kept}
 abbrev reaches : List Span → Gtid → Bool
 reaches rs g = list_any (λ r. covers r.source 1 r.hi g) rs
 
-or_group : (a b c : Bool) → ((a || b) || c) ≡ (a || (b || c))
-or_group true b c = refl
-or_group false b c = refl
-
-or_nothing : (a : Bool) → a ≡ (a || false)
-or_nothing true = refl
-or_nothing false = refl
-
 filled_has : (rs : List Span) (before all : Gtids) (g : Gtid) → fill_intervals before rs ≡ Ok all → set.contains all g ≡ (set.contains before g || reaches rs g)
-filled_has [] before all g e = ap (λ s. set.contains s g) (sym (same_ok (Ok before) before all refl e)) ∙ or_nothing (set.contains before g)
+filled_has [] before all g e = ap (λ s. set.contains s g) (sym (same_ok (Ok before) before all refl e)) ∙ or_false (set.contains before g)
 filled_has (r ∷ rs) before all g e =
     let first = made (whole (set.union before (interval r.source 1 r.hi))) (λ more. fill_intervals more rs) all e in
     filled_has rs first.from all g first.then_rest
     ∙ ap (λ s. set.contains s g || reaches rs g) (sym (whole_kept _ first.from first.first))
     ∙ ap (λ x. x || reaches rs g) (set.contains-union gtid_total before (interval r.source 1 r.hi) g ∙ ap (λ x. set.contains before g || x) (contains-interval r.source 1 r.hi g))
-    ∙ or_group (set.contains before g) (covers r.source 1 r.hi g) (reaches rs g)
+    ∙ or_flat (set.contains before g) (covers r.source 1 r.hi g) (reaches rs g)
 
 -- a span that ends there or after has its end
 record Reached (rs : List Span) (g : Gtid) : Type 0 where
@@ -44,14 +38,6 @@ record Reached (rs : List Span) (g : Gtid) : Type 0 where
   above : 1 ≤ g.number
   below : g.number ≤ last
   there : has rs (gtid g.source last) ≡ true
-
-or_left : (a b : Bool) → a ≡ true → (a || b) ≡ true
-or_left true b e = refl
-or_left false b e = absurd cc
-
-or_right : (a b : Bool) → b ≡ true → (a || b) ≡ true
-or_right true b e = refl
-or_right false b e = e
 
 covered : (r : Span) (g : Gtid) → covers r.source 1 r.hi g ≡ true → (g.source ≡ r.source) × ((1 ≤ g.number) × (g.number ≤ r.hi))
 covered r g e = grind (arith, nat_tests)

@@ -42,7 +42,7 @@ words_of line = cut_again (cut line)
 abbrev pub set_of_word : List ℕ → Result Gtids Fault
 set_of_word word = if bytes_eq word (codes "-") then Ok (set.empty) else set_word word
 
--- the source that a word names. A UUID has 36 characters, so a word of so many has no blank round it.
+-- the source that a word names. A UUID has 36 characters, so a word of that many has no blank around it.
 abbrev pub source_of_word : List ℕ → Result SourceId Fault
 source_of_word word = if length word == 36 then source_word word else Err (Refused Usage)
 

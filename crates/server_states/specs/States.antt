@@ -1,6 +1,6 @@
 -- The executed sets of several servers, compared. (MySQL 8.0 Reference Manual, "Functions Used with Global Transaction Identifiers
 -- (GTIDs)" and "GTID Life Cycle", for sets and gaps; the lines are our own.)
-use Rattle.std.specs.Prelude.{◌≡◌, ◌⊎◌, ℕ, ◌+◌, ◌<◌, ◌≤◌, nat_lt, true, false, List, [], ◌∷◌, ◌++◌, codes, Result, Ok, Err, if◌then◌else◌}
+use Rattle.std.specs.Prelude.{◌≡◌, ◌⊎◌, ℕ, ◌+◌, ◌<◌, ◌≤◌, nat_le, nat_lt, true, false, List, [], ◌∷◌, ◌++◌, codes, Result, Ok, Err, if◌then◌else◌}
 use Rattle.std.specs.FinSet as set
 use Rattle.gtid_text.specs.declared.Gtid.{Gtid}
 use Rattle.gtid_text.specs.declared.Span.{Span}
@@ -55,7 +55,7 @@ fill_intervals before (r ∷ rs) = whole (set.union before (interval r.source 1 
 abbrev pub gaps : Gtids → Result Gtids Fault
 gaps s = fill_intervals (set.empty) (runs s) >>= λ all. small (set.difference all s)
 
--- the set has not got it, and has a greater number of its source
+-- the set lacks it, and has a greater number of its source
 pub record IsGap (s : Gtids) (g : Gtid) : Type 0 where
   pub missing : set.contains s g ≡ false
   pub above : 1 ≤ g.number
@@ -114,12 +114,22 @@ pub record ComparedValue : Type 0 where
 abbrev pub compared_lines : ComparedValue → Result (List ℕ) Fault
 compared_lines c = lines_behind (union_line c.together) c.together c.servers
 
--- the lines can be made; or it is the refusal, or memory was refused
+-- the lines can be made; or it is the refusal, or out of memory
 abbrev pub CanBeMade : Result (List ℕ) Fault → Result (Unit {0}) Fault → Type 0
 CanBeMade want (Ok u) = (lines : List ℕ) × (want ≡ Ok lines)
 CanBeMade want (Err f) = (f ≡ Memory) ⊎ (want ≡ Err f)
 
--- the lines of what was compared are the answer; or it is the refusal, or memory was refused
+-- the lines of what was compared are the answer; or it is the refusal, or out of memory
 abbrev pub Compares : Result (List ℕ) Fault → Result ComparedValue Fault → Type 0
 Compares want (Ok c) = (lines : List ℕ) × (want ≡ Ok lines) × (compared_lines c ≡ Ok lines)
 Compares want (Err f) = (f ≡ Memory) ⊎ (want ≡ Err f)
+
+-- ---- how many have executed a GTID
+
+-- A GTID is in the union if and only if at least one server has executed it.
+abbrev pub UnionCountsOne : Type 0
+UnionCountsOne = (ss : List ServerValue) (t : TogetherValue) (g : Gtid) → with_servers none ss ≡ Ok t → set.contains t.all g ≡ nat_le 1 (holders g ss)
+
+-- It is shared if and only if at least two have.
+abbrev pub SharedCountsTwo : Type 0
+SharedCountsTwo = (ss : List ServerValue) (t : TogetherValue) (g : Gtid) → with_servers none ss ≡ Ok t → set.contains t.shared g ≡ nat_le 2 (holders g ss)

@@ -11,7 +11,7 @@ use gtid_set::GtidSet;
 use std::alloc::{AllocError, Global};
 use std::marker::Model;
 
-/// Appends a line: a name, a word between blanks, and a set, a hyphen where it is empty.
+/// Appends a line: a name, a word between blanks, and a set, which is a hyphen if it is empty.
 fn push_line(
     alloc: Global,
     out: &mut String,

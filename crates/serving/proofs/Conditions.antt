@@ -1,26 +1,27 @@
 -- A replica that can be served answers so, and can be served what is left.
 use Rattle.std.proofs.Common.{◌≡◌, ℕ, ◌+◌, ◌≤◌, ◌<◌, ◌||◌, suc, Bool, true, false, cond, not, List, [], ◌∷◌, ◌++◌, map, length, Option, Some, None, Ok, refl, sym, ap, ◌∙◌, subst, arith, length-append, drop, get_or, drop-cons}
-use Rattle.std.proofs.lemmas.Bool.Decides.{nat_tests}
 use Rattle.std.proofs.lemmas.Bool.{and_parts, not-false, or_left}
 use Rattle.std.proofs.lemmas.List.{map-append, length-map}
 use Rattle.std.proofs.lemmas.List.Elements.{All-from_recursion}
 use Rattle.std.proofs.lemmas.List.Filters.{length-filter_both}
-use Rattle.std.specs.Prelude.{slice_get, nat_le}
+use Rattle.std.specs.Prelude.{slice_get}
 use Rattle.std.specs.List.{filter, list_any, AllByRecursion}
 use Rattle.std.specs.FinSet as set
 use Rattle.std.specs.FinMap as finmap
 use Rattle.std.specs.FinMap.{get-empty, get-insert}
 use Rattle.std.specs.Ordering.{eq_by_cmp}
 use Rattle.std.proofs.lemmas.Option.{same_Some}
+use Rattle.lemmas.proofs.Options.{none_some}
+use Rattle.lemmas.proofs.Lists.{get_push, get_map_cases, all_append, all_at, all_from, all_true}
+use Rattle.lemmas.proofs.SameGtid.{gtid_total}
+use Rattle.lemmas.proofs.Numbers.{le_false}
 use Rattle.gtid_text.specs.declared.Gtid.{Gtid}
 use Rattle.gtid_text.specs.Gtids.{gtid_cmp}
-use Rattle.gtid_text.proofs.SameGtid.{gtid_total}
 use Rattle.gtid_set.specs.Sets.{Gtids}
 use Rattle.rows.specs.declared.schema.Table.{Table}
 use Rattle.rows.specs.declared.change.Transaction.{Transaction}
 use Rattle.rows.specs.Database.{Database}
 use Rattle.rows.specs.Fits.{misfit, Fits}
-use Rattle.rows.proofs.Lists.{get_push, get_map_cases, none_some, all_append}
 use Rattle.journal.specs.declared.Entry.{Entry}
 use Rattle.journal.specs.Journals.{JournalValue, whole, IsJournal}
 use Rattle.journal.specs.Writing.{is_number, is_txn_writable, is_writable}
@@ -34,10 +35,9 @@ use Rattle.replica_core.specs.declared.event.Reply.TheVariants as reply
 use Rattle.replica_core.specs.State.{State, Site, Replica}
 use Rattle.replica_core.specs.Machine.{Step, step, ask, with_channel}
 use Rattle.auto_position.specs.Sending.{sent, own_of}
-use Rattle.ordered_journals.proofs.Lists.{all_at, all_from}
-use Rattle.ordered_replicas.specs.Served.{accepted_entries}
-use Rattle.ordered_replicas.proofs.Sending.{sent_cases}
-use Rattle.ordered_replicas.proofs.Wholes.{set_there}
+use Rattle.convergence.specs.Served.{accepted_entries}
+use Rattle.convergence.proofs.Sending.{sent_cases}
+use Rattle.convergence.proofs.Wholes.{set_there}
 use Rattle.audit.specs.Contents.{in_order, as_entry}
 use Rattle.audit.specs.Worlds.{AllFit as AllWorldFits}
 use Rattle.world.specs.Audit.{all_entries, first_contents, found_in_keys, purged, unequal}
@@ -48,19 +48,16 @@ use Rattle.world.proofs.Finding.{next_none, when_none, first_none}
 use Rattle.world.proofs.Meanings.{keys_not, none_of_sound}
 use Rattle.txn_journal.specs.BundleStates.{BundleValue}
 use Rattle.txn_journal.specs.declared.bundle.BundleChannel.{BundleChannel}
-use Rattle.ordered_bundles.specs.Audit as in_order
-use Rattle.ordered_bundles.proofs.Sounding as sounding
+use Rattle.world.specs.AuditInOrder as in_order
+use Rattle.world.proofs.Sounding as sounding
 use Rattle.serving.specs.declared.order.Order.{Order}
 use Rattle.serving.specs.declared.order.Order.TheVariants.{BySource, ByConflict}
 use Rattle.serving.specs.declared.receiving.Apply.{Apply}
 use Rattle.serving.specs.Servable.{FitsJournal, IsFitting, HasRoom, IsServable, can_be_sent, CanOpen, IsTaken, CanReceive, CanSend, CanServe, CanServeEach}
-use Rattle.serving.specs.Serving.{run, IsBetween, with_opened, Asks, ServesOne, opening}
+use Rattle.serving.specs.Serving.{run, IsBetween, with_opened, Asks, ServesEach, opening}
 use Rattle.serving.specs.Verdicts.{Naming, names_of, world_over, keys_over}
-use Rattle.serving.proofs.Runs.{all_by, all_true, true_from, one_run, one_keeps}
-use Rattle.serving.proofs.Shapes.{applies_can, one_named}
-
-not_below : (m n : ℕ) → n < m → nat_le m n ≡ false
-not_below m n h = grind (arith, nat_tests)
+use Rattle.serving.proofs.Runs.{all_by, true_from, asks_run, asks_keeps, served_behind}
+use Rattle.serving.proofs.Shapes.{applies_can, others_can, asks_named}
 
 -- ---- one event
 
@@ -68,7 +65,7 @@ opens : (site : Site) (s : State) (name : List ℕ) (preserve : Bool) → CanOpe
     → step site s (OpenChannel name preserve) ≡ (Opened (length s.channels), record s { channels = s.channels ++ channels.new_channel name preserve ∷ [] })
 opens site s name preserve can =
     let new = can.new in
-    let few = not_below 256 (length s.channels) can.few in
+    let few = le_false 256 (length s.channels) can.few in
     simp (new, few) refl
 
 positions : (site : Site) (s : State) (c : ℕ) (ch : ChannelValue) → slice_get s.channels c ≡ Some ch → step site s (Position c) ≡ (Ask (ask s ch), with_channel s c (with_asked (ask s ch) ch))
@@ -83,7 +80,7 @@ module _ (r : Replica) (c : ℕ) (e : Entry) (es : List Entry) (can : CanReceive
   receives_as =
       let A = some_of can.channel.asked can.asked in
       let room = can.room in
-      receives r.site r.state c e can.channel A.0 can.at A.1 can.taken.0.fits (not_below most_received (length can.channel.received) (omega (arith, room)))
+      receives r.site r.state c e can.channel A.0 can.at A.1 can.taken.0.fits (le_false most_received (length can.channel.received) (omega (arith, room)))
 
   pub is_accepted : accepted_entries (Receive c e) (step r.site r.state (Receive c e)).0 ≡ e ∷ []
   is_accepted = ap (λ (x : Step). accepted_entries (Receive c e) x.0) receives_as
@@ -224,13 +221,13 @@ module _ (r : Replica) (c : ℕ) (channel : BundleChannel) (chs rest : List Bund
         sends = can.send.0;
       }
 
-  pub serve_rest : (apply : Apply) (t : Replica) → ServesOne apply r c channel j t → CanServeEach (c + 1) rest js t
-  serve_rest apply t one =
+  pub serve_rest : (all : List Entry) (a : Replica) → Asks r c channel j all a → CanServeEach (c + 1) rest js a
+  serve_rest all a asks =
       let can = split in
       let few = can.few in
-      let named = one_named apply r c channel j t one in
-      let longer : length t.state.channels ≡ length r.state.channels + 1 =
-      sym (length-map t.state.channels (λ (x : ChannelValue). (x.name, x.preserve))) ∙ ap length named
+      let named = asks_named r c channel j all a asks in
+      let longer : length a.state.channels ≡ length r.state.channels + 1 =
+      sym (length-map a.state.channels (λ (x : ChannelValue). (x.name, x.preserve))) ∙ ap length named
       ∙ length-append (names_of r.state.channels) ((channel.name, channel.preserve) ∷ [])
       ∙ ap (λ (n : ℕ). n + 1) (length-map r.state.channels (λ (x : ChannelValue). (x.name, x.preserve)))
       in
@@ -240,13 +237,19 @@ module _ (r : Replica) (c : ℕ) (channel : BundleChannel) (chs rest : List Bund
         next = longer ∙ ap (λ (n : ℕ). n + 1) can.next;
         few = omega (arith, few);
         have = can.have.1;
-        send = subst (λ (x : Replica). AllByRecursion (CanSend x.site.schema t.state.executed) js) (sym (one_run apply r c channel j t one))
-            (all_by (CanSend r.site.schema r.state.executed) (CanSend r.site.schema t.state.executed) (λ x h. record {
-              unpurged = subset_more x.previous r.state.executed t.state.executed (one_keeps apply r c channel j t one) h.unpurged;
+        send = subst (λ (x : Replica). AllByRecursion (CanSend x.site.schema a.state.executed) js) (sym (asks_run r c channel j all a asks))
+            (all_by (CanSend r.site.schema r.state.executed) (CanSend r.site.schema a.state.executed) (λ x h. record {
+              unpurged = subset_more x.previous r.state.executed a.state.executed (asks_keeps r c channel j all a asks) h.unpurged;
               taken = h.taken;
               room = h.room;
             }) js can.send.1);
       }
+
+  -- what was asked for can be received once the others were served
+  pub can_receive_behind : (apply : Apply) (all : List Entry) (a s : Replica) → Asks r c channel j all a → ServesEach apply a (c + 1) rest js s → CanReceive c all s
+  can_receive_behind apply all a s asks more =
+      let low : c < c + 1 = omega arith in
+      others_can apply a s c all (served_behind apply a (c + 1) c rest js s low more) (can_receive r c channel j serve_first a all asks)
 
 -- ---- from the opening
 
@@ -258,7 +261,7 @@ nothing_purged BySource b sound =
     (all.0, (next_none (purged w b.journals) _ all.1).0)
 nothing_purged ByConflict b sound =
     let w = world_over b in
-    let all = next_none (unequal w b.journals) _ (none_of_sound (in_order.found_in_keys w b.journals) (sounding.keys_not w b.journals) sound) in
+    let all = next_none (unequal w b.journals) _ (none_of_sound (in_order.found_in_keys_in_order w b.journals) (sounding.keys_not w b.journals) sound) in
     (all.0, (next_none (purged w b.journals) _ all.1).0)
 
 unpurged : (order : Order) (b : BundleValue) → keys_over order b ≡ Sound → (i : ℕ) (j : JournalValue) → slice_get b.journals i ≡ Some j → set.is_subset j.previous b.opened ≡ true

@@ -1,5 +1,5 @@
 -- What is executed and received stays within a cover, and so does each set that an event makes.
-use Rattle.std.proofs.Common.{◌≡◌, ℕ, ◌+◌, ◌*◌, ◌<◌, ◌≤◌, zero, suc, Bool, true, false, cond, eqb, ◌||◌, inl, inr, List, [], ◌∷◌, ◌++◌, map, take, drop, drop-cons, length, get_or, Option, Some, None, refl, sym, ap, ◌∙◌, subst, arith, true≢false}
+use Rattle.std.proofs.Common.{◌≡◌, ℕ, ◌+◌, ◌*◌, ◌<◌, zero, suc, Bool, true, false, cond, eqb, ◌||◌, inl, inr, List, [], ◌∷◌, ◌++◌, map, take, drop, drop-cons, length, get_or, Option, Some, None, refl, sym, ap, ◌∙◌, subst, arith, true≢false}
 use Rattle.std.specs.Prelude.{slice_get, ◌⊎◌}
 use Rattle.std.specs.List.{AllByRecursion}
 use Rattle.std.specs.Option.{option_and_then}
@@ -10,9 +10,12 @@ use Rattle.std.proofs.lemmas.Bool.{cases_eq, or_cases, or_left, or_right, ne_eqb
 use Rattle.std.proofs.lemmas.List.{length-append}
 use Rattle.std.proofs.lemmas.List.Folds.{list_any-append}
 use Rattle.std.proofs.lemmas.Option.{same_Some}
+use Rattle.lemmas.proofs.Lists.{all_at, all_from, all_drop}
+use Rattle.lemmas.proofs.Options.{none_some, map_some, and_then_some}
+use Rattle.lemmas.proofs.SameGtid.{same_itself, same_is_equal, gtid_total}
+use Rattle.lemmas.proofs.Tests.{from_or_false}
 use Rattle.gtid_text.specs.declared.Gtid.{Gtid}
 use Rattle.gtid_text.specs.Gtids.{same_gtid}
-use Rattle.gtid_text.proofs.SameGtid.{same_itself, same_is_equal, gtid_total}
 use Rattle.gtid_set.specs.declared.fault.SetFault.{SetFault}
 use Rattle.gtid_set.specs.Full.{most_intervals, IsFaultOf}
 use Rattle.gtid_set.specs.Edges.{next_to, ends_of, HasEdges, HasEnds, AreManyEdges}
@@ -23,7 +26,6 @@ use Rattle.gtid_set.proofs.FaultLemmas.{fault_map, memory_fault}
 use Rattle.gtid_set.specs.Sets.{Gtids}
 use Rattle.gtid_set.proofs.SetSources.{fewer_sources}
 use Rattle.rows.specs.declared.change.Transaction.{Transaction}
-use Rattle.rows.proofs.Lists.{none_some, map_some, and_then_some}
 use Rattle.journal.specs.declared.Entry.{Entry}
 use Rattle.journal.specs.Journals.{JournalValue, whole}
 use Rattle.journal.specs.Edges.{HasEndsOf}
@@ -40,22 +42,21 @@ use Rattle.replica_core.specs.State.{State, Replica}
 use Rattle.replica_core.specs.Machine.{step, ask, Held, held_of, held_at, held}
 use Rattle.replica_core.specs.AtOnce.{IsFaultAtOnce}
 use Rattle.replica_core.specs.Faults.{ask_set, received_set, committed_set, executed_with, IsFaultIn}
-use Rattle.ordered_journals.proofs.Covering.{is_entry, in_insert, in_gtids, in_whole}
-use Rattle.ordered_journals.proofs.Lists.{all_at, all_from, all_drop}
-use Rattle.ordered_replicas.specs.Served.{accepted_entries, received_on, local_commits, NoLocalCommits}
-use Rattle.ordered_replicas.proofs.Receiving.{among_received}
-use Rattle.ordered_replicas.proofs.Growing.{nothing}
-use Rattle.ordered_replicas.proofs.Serving.{run_grows}
-use Rattle.ordered_replicas.proofs.Sharing.{Moves, Brought, run_moves}
+use Rattle.history.proofs.Covering.{is_entry, in_insert, in_gtids, in_whole}
+use Rattle.convergence.specs.Served.{accepted_entries, received_on, local_commits, NoLocalCommits}
+use Rattle.convergence.proofs.Receiving.{among_received}
+use Rattle.convergence.proofs.Growing.{nothing}
+use Rattle.convergence.proofs.Serving.{run_grows}
+use Rattle.convergence.proofs.Sharing.{Moves, Brought, run_moves}
 use Rattle.world.proofs.Contents.{entry_at, entry_from}
-use Rattle.ordered_replicas.specs.Deciding.{all_of}
+use Rattle.convergence.specs.Deciding.{all_of}
 use Rattle.txn_journal.specs.BundleStates.{BundleValue}
 use Rattle.txn_journal.specs.declared.bundle.BundleChannel.{BundleChannel}
 use Rattle.serving.specs.declared.receiving.Apply.{Apply}
 use Rattle.serving.specs.declared.receiving.Apply.TheVariants.{AtOnce}
 use Rattle.serving.specs.Faults.{Cover, IsFaultWhere, HasGtid, HasSet, IsReceived, Knows, HasEntries, KnowsWith, HasJournal, KnowsToo, IsBundleFault, IsVerdictFault}
 use Rattle.serving.specs.declared.order.Order.{Order}
-use Rattle.serving.specs.Serving.{run, IsBetween, IsFeed, Applies, Receives, with_opened, Asks, ServesOne, ServesEach, opening, IsServed, IsRun}
+use Rattle.serving.specs.Serving.{run, IsBetween, IsFeed, Applies, Receives, with_opened, Asks, ServesEach, opening, IsServed, IsRun}
 use Rattle.serving.proofs.Conditions.{sent_all}
 use Rattle.serving.proofs.Runs.{all_by, IsApart, no_receipts, no_locals, no_commits, between_apart, feed_apart}
 
@@ -127,16 +128,13 @@ knows_asking cover r t c channel j es asks within =
 pub sends_known : (cover : Cover) (r t : Replica) (c : ℕ) (channel : BundleChannel) (j : JournalValue) (es : List Entry) → Asks r c channel j es t → HasEntries cover j.entries → HasEntries cover es
 sends_known cover r t c channel j es asks h = sent_all (λ (e : Entry). HasGtid cover e.gtid) j asks.ask es asks.all_sent h
 
-pub knows_one : (cover : Cover) (apply : Apply) (r t : Replica) (c : ℕ) (channel : BundleChannel) (j : JournalValue) → ServesOne apply r c channel j t → HasEntries cover j.entries → Knows r.state cover → Knows t.state cover
-knows_one cover apply r t c channel j one h within =
-    knows_received cover apply one.asking t c one.all one.received (sends_known cover r one.asking c channel j one.all one.asks h) (knows_asking cover r one.asking c channel j one.all one.asks within)
-
 knows_each : (cover : Cover) (apply : Apply) (r : Replica) (c : ℕ) (channels : List BundleChannel) (js : List JournalValue) (t : Replica) → ServesEach apply r c channels js t
     → AllByRecursion (HasJournal cover) js → Knows r.state cover → Knows t.state cover
 knows_each cover apply r c channels [] t x h within = subst (λ (y : Replica). Knows y.state cover) (sym x) within
 knows_each cover apply r c [] (j ∷ js) t x h within = absurd x
 knows_each cover apply r c (channel ∷ channels) (j ∷ js) t x h within =
-    knows_each cover apply x.0 (c + 1) channels js t x.2 h.1 (knows_one cover apply r x.0 c channel j x.1 h.0.entries within)
+    knows_received cover apply x.2 t c x.0 x.5 (sends_known cover r x.1 c channel j x.0 x.3 h.0.entries)
+    (knows_each cover apply x.1 (c + 1) channels js x.2 x.4 h.1 (knows_asking cover r x.1 c channel j x.0 x.3 within))
 
 -- ---- from the opening
 
@@ -343,12 +341,8 @@ commit_fault f s seat h = option_fault f (Knows s) (committed_set seat s) (λ co
     let r = map_some (λ (x : Held). executed_with s x.gtid) (held s seat) made is in
     subst (HasSet cover) r.2 (has_insert cover s.executed r.0.gtid within.executed (within.received r.0.gtid (held_there s seat r.0 r.1)))) h
 
-or_none : (b : Bool) → (b || false) ≡ true → b ≡ true
-or_none true h = h
-or_none false h = h
-
 received_alone : (b : Bool) (c : ℕ) (e : Entry) (r : Reply) (g : Gtid) → is_entry (cond b (accepted_entries (Receive c e) r) [] ++ []) g ≡ true → g ≡ e.gtid
-received_alone true c e (TheReceived p) g h = same_is_equal g e.gtid (or_none (same_gtid g e.gtid) h)
+received_alone true c e (TheReceived p) g h = same_is_equal g e.gtid (from_or_false (same_gtid g e.gtid) h)
 received_alone b c e r g h = nothing g h
 
 -- an entry that is not received, or not committed at once
@@ -402,18 +396,25 @@ run_fault f order b core r h = bundle_fault f b (Knows core.state) (knows_all or
 pub seat_fault : (f : SetFault) (order : Order) (b : BundleValue) (core : Replica) (seat : ℕ) → IsRun order b core → IsFaultIn f (committed_set seat core.state) → IsBundleFault b f
 seat_fault f order b core seat r h = run_fault f order b core r (commit_fault f core.state seat h)
 
--- a fault of the first journal, and one of the others
+-- a fault of the first journal
 pub first_fault : (f : SetFault) (s : State) (j : JournalValue) (js journals : List JournalValue) → journals ≡ j ∷ js → IsFaultWhere (KnowsToo s (j ∷ [])) f → IsFaultWhere (KnowsToo s journals) f
 first_fault f s j js journals is h =
     subst (λ (xs : List JournalValue). IsFaultWhere (KnowsToo s xs) f) (sym is) (weaker f (KnowsToo s (j ∷ [])) (KnowsToo s (j ∷ js)) (λ cover has. (has.0, (has.1.0, tt))) h)
 
-pub rest_fault : (f : SetFault) (apply : Apply) (r t : Replica) (c : ℕ) (channel : BundleChannel) (j : JournalValue) (js journals : List JournalValue) → journals ≡ j ∷ js → ServesOne apply r c channel j t
-    → IsFaultWhere (KnowsToo t.state js) f → IsFaultWhere (KnowsToo r.state journals) f
-rest_fault f apply r t c channel j js journals is one h =
+-- a fault of the other journals, once a channel has asked for the first
+pub rest_fault : (f : SetFault) (r a : Replica) (c : ℕ) (channel : BundleChannel) (j : JournalValue) (js journals : List JournalValue) (all : List Entry) → journals ≡ j ∷ js → Asks r c channel j all a
+    → IsFaultWhere (KnowsToo a.state js) f → IsFaultWhere (KnowsToo r.state journals) f
+rest_fault f r a c channel j js journals all is asks h =
     subst (λ (xs : List JournalValue). IsFaultWhere (KnowsToo r.state xs) f) (sym is)
-    (weaker f (KnowsToo t.state js) (KnowsToo r.state (j ∷ js)) (λ cover has. (knows_one cover apply r t c channel j one has.1.0.entries has.0, has.1.1)) h)
+    (weaker f (KnowsToo a.state js) (KnowsToo r.state (j ∷ js)) (λ cover has. (knows_asking cover r a c channel j all asks has.0, has.1.1)) h)
 
--- a fault of entries that a journal sends
-pub sent_fault : (f : SetFault) (r t : Replica) (c : ℕ) (channel : BundleChannel) (j : JournalValue) (es : List Entry) → Asks r c channel j es t → IsFaultWhere (KnowsWith t.state es) f → IsFaultWhere (KnowsToo r.state (j ∷ [])) f
-sent_fault f r t c channel j es asks h =
-    weaker f (KnowsWith t.state es) (KnowsToo r.state (j ∷ [])) (λ cover has. (knows_asking cover r t c channel j es asks has.0, sends_known cover r t c channel j es asks has.1.0.entries)) h
+-- a fault of entries that a journal sends, once the others were served
+pub sent_fault : (f : SetFault) (apply : Apply) (r a s : Replica) (c : ℕ) (channel : BundleChannel) (rest : List BundleChannel) (j : JournalValue) (js journals : List JournalValue) (all : List Entry)
+    → journals ≡ j ∷ js → Asks r c channel j all a → ServesEach apply a (c + 1) rest js s → IsFaultWhere (KnowsWith s.state all) f → IsFaultWhere (KnowsToo r.state journals) f
+sent_fault f apply r a s c channel rest j js journals all is asks more h =
+    subst (λ (xs : List JournalValue). IsFaultWhere (KnowsToo r.state xs) f) (sym is)
+    (weaker f (KnowsWith s.state all) (KnowsToo r.state (j ∷ js))
+    (λ cover has. (
+      knows_each cover apply a (c + 1) rest js s more has.1.1 (knows_asking cover r a c channel j all asks has.0),
+      sends_known cover r a c channel j all asks has.1.0.entries,
+    )) h)

@@ -1,12 +1,14 @@
 -- Runs that serve journals, and what the laws give for them.
-use Rattle.std.proofs.Common.{◌≡◌, ℕ, zero, suc, ◌+◌, ◌&&◌, inr, Bool, true, false, cond, not, eqb, eq-eqb, List, [], ◌∷◌, ◌++◌, length, Option, Some, None, refl, sym, ap, ◌∙◌, subst, append_assoc, append-nil, arith}
+use Rattle.std.proofs.Common.{◌≡◌, ℕ, zero, suc, ◌+◌, ◌<◌, ◌&&◌, inr, Bool, true, false, cond, not, eqb, eq-eqb, List, [], ◌∷◌, ◌++◌, length, Option, Some, None, refl, sym, ap, ◌∙◌, subst, append_assoc, append-nil, arith}
 use Rattle.std.specs.Prelude.{◌↔◌, slice_get}
 use Rattle.std.specs.List.{list_all, AllByRecursion}
 use Rattle.std.specs.Option.{unwrap_or}
 use Rattle.std.specs.FinSet as set
-use Rattle.std.proofs.lemmas.Bool.{and_from, and_parts, ne_eqb}
+use Rattle.std.proofs.lemmas.Bool.{and_from, ne_eqb}
 use Rattle.std.proofs.lemmas.List.Folds.{list_all-append}
 use Rattle.std.proofs.lemmas.Option.{same_Some, slice_get_past}
+use Rattle.lemmas.proofs.Options.{none_some}
+use Rattle.lemmas.proofs.Lists.{all_true, all_append}
 use Rattle.gtid_text.specs.declared.Gtid.{Gtid}
 use Rattle.journal.specs.declared.Entry.{Entry}
 use Rattle.journal.specs.Journals.{JournalValue}
@@ -17,26 +19,25 @@ use Rattle.replica_core.specs.declared.event.Reply.{Reply}
 use Rattle.replica_core.specs.State.{State, Site, Replica}
 use Rattle.replica_core.specs.Machine.{Step, step, after, drained}
 use Rattle.replica_core.specs.Draining.{AreStoppedOrDone}
-use Rattle.ordered_replicas.specs.Served.{IsDrained, IsNoLocalCommit, NoLocalCommits, received_on, accepted_entries, on_channel, committed_here, local_commits}
-use Rattle.ordered_replicas.specs.Whole.{is_position, WasServedOnce}
-use Rattle.ordered_replicas.proofs.Sharing.{after_append, received_append}
-use Rattle.ordered_replicas.proofs.Serving.{run_grows}
-use Rattle.rows.proofs.Lists.{none_some, all_append}
+use Rattle.convergence.specs.Served.{IsDrained, IsNoLocalCommit, NoLocalCommits, received_on, accepted_entries, on_channel, committed_here, local_commits}
+use Rattle.convergence.specs.Whole.{is_position, WasServedOnce}
+use Rattle.convergence.proofs.Sharing.{after_append, received_append}
+use Rattle.convergence.proofs.Serving.{run_grows}
 use Rattle.world.specs.Search.{or_next}
 use Rattle.world.specs.Audit.{found_in_keys, does_not_apply}
 use Rattle.world.specs.Meaning.{AreJournals}
 use Rattle.world.specs.declared.verdict.Verdict.{Verdict}
 use Rattle.world.specs.declared.verdict.Verdict.TheVariants.{Sound}
-use Rattle.ordered_replicas.specs.Deciding.{ServesAll}
-use Rattle.ordered_replicas.proofs.Deciding.{serves_by_number}
-use Rattle.faithful_runs.specs.Deciding.{WorkersDecide, ServedHoldsAll}
+use Rattle.convergence.specs.Deciding.{ServesAll}
+use Rattle.convergence.proofs.Deciding.{serves_by_number}
+use Rattle.convergence.specs.Auditing.{WorkersDecide, ServedHoldsAll}
 use Rattle.txn_journal.specs.BundleStates.{BundleValue}
 use Rattle.txn_journal.specs.declared.bundle.BundleChannel.{BundleChannel}
 use Rattle.serving.specs.declared.receiving.Apply.{Apply}
 use Rattle.serving.specs.declared.receiving.Apply.TheVariants.{Later, AtOnce}
-use Rattle.serving.specs.Serving.{run, IsBetween, apply_events_at, IsFeed, Applies, Receives, with_opened, ServesOne, ServesEach, opening, IsServed, IsApplied, IsReady, IsRun}
-use Rattle.ordered_bundles.specs.Audit as in_order
-use Rattle.faithful_runs.specs.InOrder.{WorkersDecideInOrder, ServedHoldsAllInOrder}
+use Rattle.serving.specs.Serving.{run, IsBetween, apply_events_at, IsFeed, Applies, Receives, with_opened, Asks, ServesEach, opening, IsServed, IsApplied, IsReady, IsRun}
+use Rattle.world.specs.AuditInOrder as in_order
+use Rattle.convergence.specs.AuditingInOrder.{WorkersDecideInOrder, ServedHoldsAllInOrder}
 use Rattle.serving.specs.declared.order.Order.{Order}
 use Rattle.serving.specs.declared.order.Order.TheVariants.{BySource, ByConflict}
 use Rattle.serving.specs.Verdicts.{is_sound, world_over, keys_over, verdict_over, HoldsAllBy, IsFoundInKeys, IsConcluded}
@@ -166,48 +167,79 @@ receives_more apply r s t c xs ys v w =
       got = received_append c r.site r.state v.events w.events ∙ (λ i. v.got i ++ later i);
     }
 
+-- ---- what leaves a channel as it is seen
+
+-- it opens one, or positions or feeds another, or comes between entries
+abbrev pub IsElsewhere : Apply → ℕ → Event → Type 0
+IsElsewhere apply d (OpenChannel name preserve) = Unit {0}
+IsElsewhere apply d (Position c) = eqb c d ≡ false
+IsElsewhere apply d (Receive c entry) = eqb c d ≡ false
+IsElsewhere apply d event = IsBetween apply event
+
+pub between_elsewhere : (apply : Apply) (d : ℕ) (e : Event) → IsBetween apply e → IsElsewhere apply d e
+between_elsewhere Later d e h = absurd h
+between_elsewhere AtOnce d (OpenChannel name preserve) h = absurd h
+between_elsewhere AtOnce d (Position c) h = absurd h
+between_elsewhere AtOnce d (Receive c entry) h = absurd h
+between_elsewhere AtOnce d e h = h
+
+feed_elsewhere : (apply : Apply) (c d : ℕ) (e : Event) → eqb c d ≡ false → IsFeed apply c e → IsElsewhere apply d e
+feed_elsewhere apply c d (Receive x entry) other h = ap (λ n. eqb n d) h ∙ other
+feed_elsewhere apply c d e other h = between_elsewhere apply d e h
+
 -- ---- one journal
 
-module _ (apply : Apply) (r : Replica) (c : ℕ) (channel : BundleChannel) (j : JournalValue) (t : Replica) (one : ServesOne apply r c channel j t) where
-  abbrev pub events_one : List Event
-  events_one = OpenChannel channel.name channel.preserve ∷ Position c ∷ one.received.events
+module _ (r : Replica) (c : ℕ) (channel : BundleChannel) (j : JournalValue) (all : List Entry) (a : Replica) (asks : Asks r c channel j all a) where
+  abbrev pub asking : List Event
+  asking = OpenChannel channel.name channel.preserve ∷ Position c ∷ []
 
-  pub one_run : t ≡ run r events_one
-  one_run = one.received.now ∙ ap (λ (x : Replica). run x one.received.events) one.asks.now
+  asking_apart : (d : ℕ) → eqb c d ≡ false → AllByRecursion (IsApart d) asking
+  asking_apart d other = (tt, (other, tt))
 
-  one_apart : (d : ℕ) → eqb c d ≡ false → AllByRecursion (IsApart d) events_one
-  one_apart d other = (tt, (other, all_by (IsFeed apply c) (IsApart d) (λ e h. feed_apart apply c d e other h) one.received.events one.received.feeds))
+  asking_elsewhere : (apply : Apply) (d : ℕ) → eqb c d ≡ false → AllByRecursion (IsElsewhere apply d) asking
+  asking_elsewhere apply d other = (tt, (other, tt))
+
+  pub asks_run : a ≡ run r asking
+  asks_run = asks.now
 
   -- what was executed stays so
-  pub one_keeps : (g : Gtid) → set.contains r.state.executed g ≡ true → set.contains t.state.executed g ≡ true
-  one_keeps g h =
+  pub asks_keeps : (g : Gtid) → set.contains r.state.executed g ≡ true → set.contains a.state.executed g ≡ true
+  asks_keeps g h =
       let other : eqb c (suc c) ≡ false = ne_eqb c (suc c) (λ e. absurd (omega (arith, e))) in
-      subst (λ (x : Replica). set.contains x.state.executed g ≡ true) (sym one_run)
-      ((run_grows r.site r.state events_one (no_locals (suc c) r.site r.state events_one (one_apart (suc c) other))).kept g h)
+      subst (λ (x : Replica). set.contains x.state.executed g ≡ true) (sym asks_run)
+      ((run_grows r.site r.state asking (no_locals (suc c) r.site r.state asking (asking_apart (suc c) other))).kept g h)
 
-  -- what comes later may not touch the channel
-  served_first : (rest : List Event) → AllByRecursion (IsApart c) rest → WasServedOnce r.site r.state (events_one ++ rest) c j
-  served_first rest apart =
-      let fed : List Event = one.received.events in
-      let s : State = (run (with_opened r channel) (Position c ∷ [])).state in
-      let got : received_on c r.site s fed ≡ one.all = subst (λ (x : Replica). received_on c x.site x.state fed ≡ one.all) one.asks.now one.received.got in
+  -- it is served by what it asked and what it receives, if nothing between and nothing later touches the channel
+  served_first : (apply : Apply) (s t : Replica) (between : List Event) (receives : Receives apply s c all t) (rest : List Event) → s ≡ run a between → AllByRecursion (IsApart c) between
+      → AllByRecursion (IsApart c) rest → WasServedOnce r.site r.state (asking ++ (between ++ (receives.events ++ rest))) c j
+  served_first apply s t between receives rest reached quiet apart =
+      let fed : List Event = receives.events in
+      let asked : State = after r.site r.state asking in
+      let ready : State = after r.site asked between in
+      let at : s ≡ run r (asking ++ between) = then_run r a s asking between asks_run reached in
+      let got : received_on c r.site ready fed ≡ all = subst (λ (x : Replica). received_on c x.site x.state fed ≡ all) at receives.got in
+      let last : received_on c r.site ready (fed ++ rest) ≡ all =
+      received_append c r.site ready fed rest ∙ (λ i. got i ++ no_receipts c r.site (after r.site ready fed) rest apart i) ∙ append-nil all in
       record {
         served = record {
           own = None;
           before = OpenChannel channel.name channel.preserve ∷ [];
-          later = fed ++ rest;
-          ask = one.asks.ask;
-          all = one.all;
+          later = between ++ (fed ++ rest);
+          ask = asks.ask;
+          all = all;
           parts = refl;
           nothing_before = refl;
-          asked = one.asks.asked;
-          all_sent = one.asks.all_sent;
-          all_received = received_append c r.site s fed rest ∙ (λ i. got i ++ no_receipts c r.site (after r.site s fed) rest apart i) ∙ append-nil one.all;
+          asked = asks.asked;
+          all_sent = asks.all_sent;
+          all_received = received_append c r.site asked between (fed ++ rest) ∙ (λ i. no_receipts c r.site asked between quiet i ++ last i);
         };
-        once = list_all-append (λ e. not (is_position c e)) fed rest
+        once = list_all-append (λ e. not (is_position c e)) between (fed ++ rest)
+            ∙ and_from (list_all (λ e. not (is_position c e)) between) (list_all (λ e. not (is_position c e)) (fed ++ rest))
+            (passes (IsApart c) (λ e. not (is_position c e)) (apart_once c) between quiet)
+            (list_all-append (λ e. not (is_position c e)) fed rest
             ∙ and_from (list_all (λ e. not (is_position c e)) fed) (list_all (λ e. not (is_position c e)) rest)
-            (passes (IsFeed apply c) (λ e. not (is_position c e)) (feed_once apply c c) fed one.received.feeds)
-            (passes (IsApart c) (λ e. not (is_position c e)) (apart_once c) rest apart);
+            (passes (IsFeed apply c) (λ e. not (is_position c e)) (feed_once apply c c) fed receives.feeds)
+            (passes (IsApart c) (λ e. not (is_position c e)) (apart_once c) rest apart));
       }
 
 -- what comes before may not touch the channel
@@ -234,60 +266,93 @@ served_later r t d j es fs reached apart w =
 -- ---- each journal
 
 -- the events that serve each journal on a channel of its own, the first on that of this number
-record Serves (r : Replica) (c : ℕ) (js : List JournalValue) (t : Replica) : Type 0 where
+record Serves (apply : Apply) (r : Replica) (c : ℕ) (js : List JournalValue) (t : Replica) : Type 0 where
   events : List Event
   now : t ≡ run r events
+  elsewhere : (d : ℕ) → d < c → AllByRecursion (IsElsewhere apply d) events
   apart : (d : ℕ) → ((k : ℕ) → d ≡ c + k → slice_get js k ≡ None) → AllByRecursion (IsApart d) events
-  served : (rest : List Event) → ((d : ℕ) → AllByRecursion (IsApart d) rest) → (k d : ℕ) (j : JournalValue) → d ≡ c + k → slice_get js k ≡ Some j
+  served : (rest : List Event) (k d : ℕ) (j : JournalValue) → d ≡ c + k → slice_get js k ≡ Some j → AllByRecursion (IsApart d) rest
       → WasServedOnce r.site r.state (events ++ rest) d j
 
 some_not_none : {A P : Type 0} (x : A) → Some x ≡ None → P
 some_not_none x e = cc
 
-module _ (apply : Apply) (r : Replica) (c : ℕ) (channel : BundleChannel) (first : JournalValue) (js : List JournalValue) (s t : Replica) (one : ServesOne apply r c channel first s) (more : Serves s (c + 1) js t) where
-  abbrev own : List Event
-  own = events_one apply r c channel first s one
+module _ (apply : Apply) (r : Replica) (c : ℕ) (channel : BundleChannel) (first : JournalValue) (js : List JournalValue) (all : List Entry) (a s t : Replica)
+    (asks : Asks r c channel first all a) (more : Serves apply a (c + 1) js s) (receives : Receives apply s c all t) where
+  abbrev begun : List Event
+  begun = asking r c channel first all a asks
 
-  apart_each : (d : ℕ) → ((k : ℕ) → d ≡ c + k → slice_get (first ∷ js) k ≡ None) → AllByRecursion (IsApart d) (own ++ more.events)
-  apart_each d h =
-      all_append (IsApart d) own more.events
-      (one_apart apply r c channel first s one d (ne_eqb c d (λ e. let z : d ≡ c + zero = omega (arith, e) in some_not_none first (h zero z))))
-      (more.apart d (λ k e. let z : d ≡ c + suc k = omega (arith, e) in h (suc k) z))
+  abbrev fed : List Event
+  fed = receives.events
 
-  served_each : (rest : List Event) → ((d : ℕ) → AllByRecursion (IsApart d) rest) → (k d : ℕ) (j : JournalValue) → d ≡ c + k → slice_get (first ∷ js) k ≡ Some j
-      → WasServedOnce r.site r.state ((own ++ more.events) ++ rest) d j
-  served_each rest off zero d j e at =
-      let same : c ≡ d = omega (arith, e) in
-      let none : AllByRecursion (IsApart c) more.events = more.apart c (λ k z. absurd (omega (arith, z))) in
-      let here = served_first apply r c channel first s one (more.events ++ rest) (all_append (IsApart c) more.events rest none (off c)) in
-      subst (λ (n : ℕ). WasServedOnce r.site r.state ((own ++ more.events) ++ rest) n j) same
-      (subst (λ (es : List Event). WasServedOnce r.site r.state es c j) (sym (append_assoc own more.events rest))
-      (subst (λ (x : JournalValue). WasServedOnce r.site r.state (own ++ (more.events ++ rest)) c x) (same_Some first j at) here))
-  served_each rest off (suc k) d j e at =
+  abbrev each : List Event
+  each = begun ++ (more.events ++ fed)
+
+  each_run : t ≡ run r each
+  each_run = then_run r a t begun (more.events ++ fed) (asks_run r c channel first all a asks) (then_run a s t more.events fed more.now receives.now)
+
+  fed_apart : (d : ℕ) → eqb c d ≡ false → AllByRecursion (IsApart d) fed
+  fed_apart d other = all_by (IsFeed apply c) (IsApart d) (λ e h. feed_apart apply c d e other h) fed receives.feeds
+
+  each_elsewhere : (d : ℕ) → d < c → AllByRecursion (IsElsewhere apply d) each
+  each_elsewhere d low =
+      let other : eqb c d ≡ false = ne_eqb c d (λ e. absurd (omega (arith, e, low))) in
+      all_append (IsElsewhere apply d) begun (more.events ++ fed) (asking_elsewhere r c channel first all a asks apply d other)
+      (all_append (IsElsewhere apply d) more.events fed (more.elsewhere d (omega (arith, low)))
+      (all_by (IsFeed apply c) (IsElsewhere apply d) (λ e h. feed_elsewhere apply c d e other h) fed receives.feeds))
+
+  each_apart : (d : ℕ) → ((k : ℕ) → d ≡ c + k → slice_get (first ∷ js) k ≡ None) → AllByRecursion (IsApart d) each
+  each_apart d h =
+      let other : eqb c d ≡ false = ne_eqb c d (λ e. let z : d ≡ c + zero = omega (arith, e) in some_not_none first (h zero z)) in
+      all_append (IsApart d) begun (more.events ++ fed) (asking_apart r c channel first all a asks d other)
+      (all_append (IsApart d) more.events fed (more.apart d (λ k e. let z : d ≡ c + suc k = omega (arith, e) in h (suc k) z)) (fed_apart d other))
+
+  each_served : (rest : List Event) (k d : ℕ) (j : JournalValue) → d ≡ c + k → slice_get (first ∷ js) k ≡ Some j → AllByRecursion (IsApart d) rest → WasServedOnce r.site r.state (each ++ rest) d j
+  each_served rest zero d j e at apart =
+      let same : d ≡ c = omega (arith, e) in
+      let quiet : AllByRecursion (IsApart c) more.events = more.apart c (λ k z. absurd (omega (arith, z))) in
+      let here = served_first r c channel first all a asks apply s t more.events receives rest more.now quiet (subst (λ (n : ℕ). AllByRecursion (IsApart n) rest) same apart) in
+      subst (λ (n : ℕ). WasServedOnce r.site r.state (each ++ rest) n j) (sym same)
+      (subst (λ (es : List Event). WasServedOnce r.site r.state (begun ++ es) c j) (sym (append_assoc more.events fed rest))
+      (subst (λ (x : JournalValue). WasServedOnce r.site r.state (begun ++ (more.events ++ (fed ++ rest))) c x) (same_Some first j at) here))
+  each_served rest (suc k) d j e at apart =
       let later : d ≡ (c + 1) + k = omega (arith, e) in
-      let apart = one_apart apply r c channel first s one d (ne_eqb c d (λ z. absurd (omega (arith, z, later)))) in
-      subst (λ (es : List Event). WasServedOnce r.site r.state es d j) (sym (append_assoc own more.events rest))
-      (served_later r s d j own (more.events ++ rest) (one_run apply r c channel first s one) apart (more.served rest off k d j later at))
+      let other : eqb c d ≡ false = ne_eqb c d (λ z. absurd (omega (arith, z, later))) in
+      let quiet : AllByRecursion (IsApart d) (fed ++ rest) = all_append (IsApart d) fed rest (fed_apart d other) apart in
+      subst (λ (es : List Event). WasServedOnce r.site r.state (begun ++ es) d j) (sym (append_assoc more.events fed rest))
+      (served_later r a d j begun (more.events ++ (fed ++ rest)) (asks_run r c channel first all a asks) (asking_apart r c channel first all a asks d other)
+      (more.served (fed ++ rest) k d j later at quiet))
 
-serves_each : (apply : Apply) (r : Replica) (c : ℕ) (channels : List BundleChannel) (js : List JournalValue) (t : Replica) → ServesEach apply r c channels js t → Serves r c js t
-serves_each apply r c channels [] t x = record { events = []; now = x; apart = λ d h. tt; served = λ rest off k d j e at. none_some j at }
+serves_each : (apply : Apply) (r : Replica) (c : ℕ) (channels : List BundleChannel) (js : List JournalValue) (t : Replica) → ServesEach apply r c channels js t → Serves apply r c js t
+serves_each apply r c channels [] t x = record { events = []; now = x; elsewhere = λ d low. tt; apart = λ d h. tt; served = λ rest k d j e at apart. none_some j at }
 serves_each apply r c [] (j ∷ js) t x = absurd x
 serves_each apply r c (channel ∷ channels) (j ∷ js) t x =
-    let more = serves_each apply x.0 (c + 1) channels js t x.2 in
-    let own = events_one apply r c channel j x.0 x.1 in
+    let more = serves_each apply x.1 (c + 1) channels js x.2 x.4 in
     record {
-      events = own ++ more.events;
-      now = then_run r x.0 t own more.events (one_run apply r c channel j x.0 x.1) more.now;
-      apart = apart_each apply r c channel j js x.0 t x.1 more;
-      served = served_each apply r c channel j js x.0 t x.1 more;
+      events = each apply r c channel j js x.0 x.1 x.2 t x.3 more x.5;
+      now = each_run apply r c channel j js x.0 x.1 x.2 t x.3 more x.5;
+      elsewhere = each_elsewhere apply r c channel j js x.0 x.1 x.2 t x.3 more x.5;
+      apart = each_apart apply r c channel j js x.0 x.1 x.2 t x.3 more x.5;
+      served = each_served apply r c channel j js x.0 x.1 x.2 t x.3 more x.5;
     }
 
--- one journal, and then the others
-pub serves_more : (apply : Apply) (r s t : Replica) (c : ℕ) (channel : BundleChannel) (channels rest : List BundleChannel) (j : JournalValue) (js journals : List JournalValue)
-    → channels ≡ channel ∷ rest → journals ≡ j ∷ js → ServesOne apply r c channel j s → ServesEach apply s (c + 1) rest js t → ServesEach apply r c channels journals t
-serves_more apply r s t c channel channels rest j js journals of is one more =
+-- the channels before those that are served stay as they are seen
+pub record IsServedBehind (apply : Apply) (d : ℕ) (r t : Replica) : Type 0 where
+  pub events : List Event
+  pub now : t ≡ run r events
+  pub elsewhere : AllByRecursion (IsElsewhere apply d) events
+
+pub served_behind : (apply : Apply) (r : Replica) (c d : ℕ) (channels : List BundleChannel) (js : List JournalValue) (t : Replica) → d < c → ServesEach apply r c channels js t → IsServedBehind apply d r t
+served_behind apply r c d channels js t low x =
+    let each = serves_each apply r c channels js t x in
+    record { events = each.events; now = each.now; elsewhere = each.elsewhere d low }
+
+-- one journal, and the others
+pub serves_more : (apply : Apply) (r a s t : Replica) (c : ℕ) (channel : BundleChannel) (channels rest : List BundleChannel) (j : JournalValue) (js journals : List JournalValue) (all : List Entry)
+    → channels ≡ channel ∷ rest → journals ≡ j ∷ js → Asks r c channel j all a → ServesEach apply a (c + 1) rest js s → Receives apply s c all t → ServesEach apply r c channels journals t
+serves_more apply r a s t c channel channels rest j js journals all of is asks more receives =
     subst (λ (xs : List JournalValue). ServesEach apply r c channels xs t) (sym is)
-    (subst (λ (cs : List BundleChannel). ServesEach apply r c cs (j ∷ js) t) (sym of) (s, one, more))
+    (subst (λ (cs : List BundleChannel). ServesEach apply r c cs (j ∷ js) t) (sym of) (all, a, s, asks, more, receives))
 
 -- ---- the run
 
@@ -311,14 +376,9 @@ run_of order b core r =
       reached = then_run from r.served core each.events later each.now r.applies.now;
       serves = serves_by_number from.site from.state b.journals (each.events ++ later)
           (no_locals (length b.journals) from.site from.state (each.events ++ later) (apart (length b.journals) (slice_get_past b.journals (length b.journals) (omega arith))))
-          (λ c j at. let z : c ≡ 0 + c = omega arith in each.served later off c c j z at)
+          (λ c j at. let z : c ≡ 0 + c = omega arith in each.served later c c j z at (off c))
           (λ c none. no_receipts c from.site from.state (each.events ++ later) (apart c none));
     }
-
-pub all_true : {A : Type 0} (p : A → Bool) (xs : List A) (i : ℕ) (x : A) → list_all p xs ≡ true → slice_get xs i ≡ Some x → p x ≡ true
-all_true p [] i x h at = none_some x at
-all_true p (y ∷ ys) zero x h at = ap p (same_Some x y (sym at)) ∙ (and_parts (p y) (list_all p ys) h).0
-all_true p (y ∷ ys) (suc i) x h at = all_true p ys i x (and_parts (p y) (list_all p ys) h).1 at
 
 pub true_from : {A : Type 0} (p : A → Bool) (xs : List A) → ((i : ℕ) (x : A) → slice_get xs i ≡ Some x → p x ≡ true) → list_all p xs ≡ true
 true_from p [] h = refl
@@ -358,7 +418,7 @@ stays None p h = absurd (h refl)
 -- what the audit of keys finds is what the audit finds
 keys_stay : (order : Order) (b : BundleValue) → (keys_over order b ≡ Sound → ⊥) → keys_over order b ≡ verdict_over order b
 keys_stay BySource b h = stays (found_in_keys (world_over b) b.journals) (does_not_apply (world_over b)) h
-keys_stay ByConflict b h = stays (in_order.found_in_keys (world_over b) b.journals) (in_order.does_not_apply (world_over b) b.journals) h
+keys_stay ByConflict b h = stays (in_order.found_in_keys_in_order (world_over b) b.journals) (in_order.fails_in_order (world_over b) b.journals) h
 
 pub keys_found : (order : Order) (b : BundleValue) (keys : Verdict) → keys ≡ keys_over order b → is_sound keys ≡ false → IsFoundInKeys order b (Some keys)
 keys_found order b keys is h =

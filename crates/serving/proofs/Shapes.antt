@@ -1,36 +1,36 @@
 -- What events leave of the names of channels, and of what these can receive.
-use Rattle.std.proofs.Common.{◌≡◌, ℕ, ◌+◌, zero, suc, Bool, true, false, cond, not, List, [], ◌∷◌, ◌++◌, map, take, length, Option, Some, None, Result, Ok, Err, refl, sym, ap, ◌∙◌, subst, append_assoc, append-nil, arith}
+use Rattle.std.proofs.Common.{◌≡◌, ℕ, ◌+◌, zero, suc, Bool, true, false, cond, not, eqb, eq-eqb, true≢false, List, [], ◌∷◌, ◌++◌, map, take, length, Option, Some, None, Result, Ok, Err, refl, sym, ap, ◌∙◌, subst, append_assoc, append-nil, arith}
 use Rattle.std.specs.Prelude.{slice_get, slice_set, nat_le, is_some}
 use Rattle.std.specs.List.{list_any, AllByRecursion}
 use Rattle.std.specs.Option.{option_map_or}
 use Rattle.std.specs.FinSet as set
 use Rattle.std.proofs.lemmas.List.{map-append}
 use Rattle.std.proofs.lemmas.Option.{same_Some}
+use Rattle.lemmas.proofs.Lists.{get_append_left, get_map_cases, get_map}
+use Rattle.lemmas.proofs.Options.{on_option}
 use Rattle.gtid_text.specs.declared.Gtid.{Gtid}
 use Rattle.gtid_set.specs.Sets.{Gtids}
 use Rattle.rows.specs.declared.change.Transaction.{Transaction}
 use Rattle.rows.specs.declared.change.RowFault.{RowFault}
 use Rattle.rows.specs.Apply.{Rows, apply}
 use Rattle.rows.specs.Fits.{misfit}
-use Rattle.rows.proofs.Lists.{on_option, get_map_cases}
 use Rattle.journal.specs.declared.Entry.{Entry}
 use Rattle.journal.specs.Journals.{JournalValue}
 use Rattle.apply_channel.specs.Channels.{ChannelValue, Received, new_channel, same_name, is_full, settle, settle_channel, with_asked, with_stopped}
 use Rattle.replica_core.specs.declared.event.Event.{Event}
-use Rattle.replica_core.specs.declared.event.Event.TheVariants.{OpenChannel, Receive, Take, Commit, Rollback}
+use Rattle.replica_core.specs.declared.event.Event.TheVariants.{OpenChannel, Position, Receive, Take, Commit, Rollback}
 use Rattle.replica_core.specs.declared.event.Reply.TheVariants.{NameTaken, ChannelsFull, Opened, Ask, NotInSchema, SeatBusy, OwnedBy, Blocked, Early, RolledBack}
 use Rattle.replica_core.specs.State.{State, Site, Replica, owned_by, owner}
 use Rattle.replica_core.specs.Machine.{Step, is_seat, blocking, open_before, without_seat, take_entry, take_place, held, commit_answer, commit_held, commit, position_on, ask, with_channel, step, after}
-use Rattle.ordered_journals.proofs.Lists.{get_map}
 use Rattle.txn_journal.specs.BundleStates.{BundleValue}
 use Rattle.txn_journal.specs.declared.bundle.BundleChannel.{BundleChannel}
 use Rattle.serving.specs.declared.receiving.Apply.{Apply}
 use Rattle.serving.specs.declared.receiving.Apply.TheVariants.{AtOnce}
 use Rattle.serving.specs.Servable.{IsTaken, CanReceive}
 use Rattle.serving.specs.declared.order.Order.{Order}
-use Rattle.serving.specs.Serving.{IsBetween, IsFeed, Applies, with_opened, ServesOne, ServesEach, opening, IsRun}
+use Rattle.serving.specs.Serving.{IsBetween, IsFeed, Applies, with_opened, Asks, ServesEach, opening, IsRun}
 use Rattle.serving.specs.Verdicts.{Naming, names_of, names_asked, IsNamed}
-use Rattle.serving.proofs.Runs.{run_of}
+use Rattle.serving.proofs.Runs.{all_by, IsElsewhere, between_elsewhere, IsServedBehind, run_of}
 
 -- ---- steps
 
@@ -108,10 +108,51 @@ after_shapes apply site s (e ∷ es) h = after_shapes apply site (step site s e)
 applies_shapes : (apply : Apply) (r t : Replica) → Applies apply r t → map shape t.state.channels ≡ map shape r.state.channels
 applies_shapes apply r t w = ap (λ (x : Replica). map shape x.state.channels) w.now ∙ after_shapes apply r.site r.state w.events w.between
 
+-- another element may change
+get_other : {X : Type 0} (xs : List X) (i j : ℕ) (y : X) → (i ≡ j → ⊥) → slice_get (slice_set xs i y) j ≡ slice_get xs j
+get_other [] i j y other = refl
+get_other (x ∷ xs) zero zero y other = absurd (other refl)
+get_other (x ∷ xs) zero (suc j) y other = refl
+get_other (x ∷ xs) (suc i) zero y other = refl
+get_other (x ∷ xs) (suc i) (suc j) y other = get_other xs i j y (λ e. other (ap suc e))
+
+map_set : {X Y : Type 0} (f : X → Y) (xs : List X) (i : ℕ) (y : X) → map f (slice_set xs i y) ≡ slice_set (map f xs) i (f y)
+map_set f [] i y = refl
+map_set f (x ∷ xs) zero y = refl
+map_set f (x ∷ xs) (suc i) y = ap (λ ys. f x ∷ ys) (map_set f xs i y)
+
+-- what is seen of a channel stays, whatever is done with others
+module _ (site : Site) (s : State) (c : ℕ) (x : Shape) (at : slice_get (map shape s.channels) c ≡ Some x) where
+  abbrev Has : Step → Type 0
+  Has answer = slice_get (map shape answer.1.channels) c ≡ Some x
+
+  has_changed : (d : ℕ) (ch : ChannelValue) → eqb d c ≡ false → slice_get (map shape (slice_set s.channels d ch)) c ≡ Some x
+  has_changed d ch other = ap (λ (xs : List Shape). slice_get xs c) (map_set shape s.channels d ch) ∙ get_other (map shape s.channels) d c (shape ch) (λ e. true≢false (sym (eq-eqb d c e) ∙ other)) ∙ at
+
+  has_opened : (ch : ChannelValue) → slice_get (map shape (s.channels ++ ch ∷ [])) c ≡ Some x
+  has_opened ch = ap (λ (xs : List Shape). slice_get xs c) (map-append shape s.channels (ch ∷ [])) ∙ get_append_left (map shape s.channels) (shape ch ∷ []) c x at
+
+  stays_seen : (apply : Apply) (e : Event) → IsElsewhere apply c e → Has (step site s e)
+  stays_seen apply (OpenChannel name preserve) h =
+      either_way Has (list_any (λ (d : ChannelValue). same_name d.name name) s.channels) _ _ at
+      (either_way Has (nat_le 256 (length s.channels)) _ _ at (has_opened (new_channel name preserve)))
+  stays_seen apply (Position d) h = any_option Has (λ ch. (Ask (ask s ch), with_channel s d (with_asked (ask s ch) ch))) (slice_get s.channels d) _ (λ ch. has_changed d (with_asked (ask s ch) ch) h) at
+  stays_seen apply (Receive d entry) h =
+      any_option Has _ (slice_get s.channels d) _
+      (λ ch. any_option Has _ ch.asked _
+      (λ A. any_option Has (λ fault. (NotInSchema fault, s)) (misfit site.schema entry.txn) _ (λ fault. at) (either_way Has (is_full ch) _ _ at (has_changed d _ h))) at) at
+  stays_seen apply e h = ap (λ (xs : List Shape). slice_get xs c) (keeps_shapes site s apply e h) ∙ at
+
+stay_seen : (apply : Apply) (site : Site) (s : State) (c : ℕ) (x : Shape) (es : List Event) → AllByRecursion (IsElsewhere apply c) es → slice_get (map shape s.channels) c ≡ Some x
+    → slice_get (map shape (after site s es).channels) c ≡ Some x
+stay_seen apply site s c x [] h at = at
+stay_seen apply site s c x (e ∷ es) h at = stay_seen apply site (step site s e).1 c x es h.1 (stays_seen site s c x at apply e h.0)
+
 -- a channel that can receive entries can still receive them
-pub applies_can : (apply : Apply) (r t : Replica) (c : ℕ) (es : List Entry) → Applies apply r t → CanReceive c es r → CanReceive c es t
-applies_can apply r t c es w can =
-    let there : slice_get (map shape t.state.channels) c ≡ Some (shape can.channel) = ap (λ (xs : List Shape). slice_get xs c) (applies_shapes apply r t w) ∙ get_map shape r.state.channels c can.channel can.at in
+pub others_can : (apply : Apply) (r t : Replica) (c : ℕ) (es : List Entry) → IsServedBehind apply c r t → CanReceive c es r → CanReceive c es t
+others_can apply r t c es w can =
+    let there : slice_get (map shape t.state.channels) c ≡ Some (shape can.channel) =
+    ap (λ (x : Replica). slice_get (map shape x.state.channels) c) w.now ∙ stay_seen apply r.site r.state c (shape can.channel) w.events w.elsewhere (get_map shape r.state.channels c can.channel can.at) in
     let found = get_map_cases shape t.state.channels c (shape can.channel) there in
     let many : length found.0.received ≡ length can.channel.received = ap (λ (x : Shape). x.many) found.2 in
     let room = can.room in
@@ -122,6 +163,10 @@ applies_can apply r t c es w can =
       room = omega (arith, room, many);
       taken = subst (λ (x : Replica). AllByRecursion (IsTaken x.site.schema) es) (sym w.now) can.taken;
     }
+
+pub applies_can : (apply : Apply) (r t : Replica) (c : ℕ) (es : List Entry) → Applies apply r t → CanReceive c es r → CanReceive c es t
+applies_can apply r t c es w can =
+    others_can apply r t c es (record { events = w.events; now = w.now; elsewhere = all_by (IsBetween apply) (IsElsewhere apply c) (between_elsewhere apply c) w.events w.between }) can
 
 -- ---- names
 
@@ -173,22 +218,22 @@ fed_names : (apply : Apply) (c : ℕ) (site : Site) (s : State) (es : List Event
 fed_names apply c site s [] h = refl
 fed_names apply c site s (e ∷ es) h = fed_names apply c site (step site s e).1 es h.1 ∙ feed_names apply c site s e h.0
 
-pub one_named : (apply : Apply) (r : Replica) (c : ℕ) (channel : BundleChannel) (j : JournalValue) (t : Replica) → ServesOne apply r c channel j t
-    → names_of t.state.channels ≡ names_of r.state.channels ++ (channel.name, channel.preserve) ∷ []
-one_named apply r c channel j t one =
-    ap (λ (x : Replica). names_of x.state.channels) one.received.now
-    ∙ fed_names apply c one.asking.site one.asking.state one.received.events one.received.feeds
-    ∙ ap (λ (x : Replica). names_of x.state.channels) one.asks.now
+pub asks_named : (r : Replica) (c : ℕ) (channel : BundleChannel) (j : JournalValue) (all : List Entry) (a : Replica) → Asks r c channel j all a
+    → names_of a.state.channels ≡ names_of r.state.channels ++ (channel.name, channel.preserve) ∷ []
+asks_named r c channel j all a asks =
+    ap (λ (x : Replica). names_of x.state.channels) asks.now
     ∙ names_positioned (with_opened r channel).state c
-    ∙ names_opened r.site r.state channel.name channel.preserve c one.asks.number
+    ∙ names_opened r.site r.state channel.name channel.preserve c asks.number
 
 each_named : (apply : Apply) (r : Replica) (c : ℕ) (channels : List BundleChannel) (js : List JournalValue) (t : Replica) → ServesEach apply r c channels js t
     → names_of t.state.channels ≡ names_of r.state.channels ++ names_asked (take (length js) channels)
 each_named apply r c channels [] t x = ap (λ (y : Replica). names_of y.state.channels) x ∙ sym (append-nil (names_of r.state.channels))
 each_named apply r c [] (j ∷ js) t x = absurd x
 each_named apply r c (channel ∷ channels) (j ∷ js) t x =
-    each_named apply x.0 (c + 1) channels js t x.2
-    ∙ ap (λ (ns : List Naming). ns ++ names_asked (take (length js) channels)) (one_named apply r c channel j x.0 x.1)
+    ap (λ (y : Replica). names_of y.state.channels) x.5.now
+    ∙ fed_names apply c x.2.site x.2.state x.5.events x.5.feeds
+    ∙ each_named apply x.1 (c + 1) channels js x.2 x.4
+    ∙ ap (λ (ns : List Naming). ns ++ names_asked (take (length js) channels)) (asks_named r c channel j x.0 x.1 x.3)
     ∙ append_assoc (names_of r.state.channels) ((channel.name, channel.preserve) ∷ []) (names_asked (take (length js) channels))
 
 pub run_named : (order : Order) (b : BundleValue) (core : Replica) → IsRun order b core → IsNamed b core

@@ -12,7 +12,7 @@ use Rattle.journal.specs.Journals.{JournalValue}
 use Rattle.audit.specs.Faults.{intervals_of}
 use Rattle.apply_channel.specs.Channels.{ChannelValue, Received}
 use Rattle.replica_core.specs.State.{State}
-use Rattle.ordered_replicas.specs.Deciding.{all_of}
+use Rattle.convergence.specs.Deciding.{all_of}
 use Rattle.txn_journal.specs.BundleStates.{BundleValue}
 
 -- GTIDs that the sets of a run may have, and the places at which membership in them may change
@@ -20,7 +20,7 @@ pub record Cover : Type 0 where
   pub all : Gtids
   pub places : Gtids
 
--- Memory was refused; or whatever covers this has too many sources; or it has more places than the edges of any set that has not too many
+-- Out of memory; or whatever covers this has too many sources; or it has more places than the edges of any set that has not too many
 -- intervals.
 abbrev pub IsFaultWhere : (Cover → Type 0) → SetFault → Type 0
 IsFaultWhere Covers f = IsMemoryOr ((cover : Cover) → Covers cover → HasManySources cover.all) ((cover : Cover) → Covers cover → AreManyEdges cover.places) f
@@ -66,7 +66,7 @@ KnowsToo s journals cover = Knows s cover × AllByRecursion (HasJournal cover) j
 
 -- ---- of a bundle
 
--- memory was refused; or the GTIDs of all journals together have too many sources; or their intervals and entries together are too many
+-- out of memory; or the GTIDs of all journals together have too many sources; or their intervals and entries together are too many
 abbrev pub IsBundleFault : BundleValue → SetFault → Type 0
 IsBundleFault b f = IsMemoryOr (HasManySources (all_of b.opened b.journals)) (most_intervals < intervals_of b.opened b.journals) f
 

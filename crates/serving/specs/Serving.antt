@@ -13,7 +13,7 @@ use Rattle.replica_core.specs.Machine.{step, after}
 use Rattle.replica_core.specs.Core.{new_replica_with}
 use Rattle.replica_core.specs.Draining.{AreStoppedOrDone}
 use Rattle.auto_position.specs.Sending.{sent}
-use Rattle.ordered_replicas.specs.Served.{received_on}
+use Rattle.convergence.specs.Served.{received_on}
 use Rattle.world.specs.declared.verdict.Verdict.TheVariants.{Sound}
 use Rattle.txn_journal.specs.BundleStates.{BundleValue}
 use Rattle.txn_journal.specs.declared.bundle.BundleChannel.{BundleChannel}
@@ -31,7 +31,7 @@ pick_entries entries (p ∷ ps) = option_map_or (λ e. e ∷ pick_entries entrie
 abbrev pub run : Replica → List Event → Replica
 run r events = record { site = r.site; state = after r.site r.state events }
 
--- What may come between two entries that a channel receives: where they are applied at once, a take, a commit or a rollback.
+-- What may come between two entries that a channel receives: if they are applied at once, a take, a commit or a rollback.
 abbrev pub IsBetween : Apply → Event → Type 0
 IsBetween AtOnce (Take seat c p) = Unit {0}
 IsBetween AtOnce (Commit seat) = Unit {0}
@@ -72,18 +72,14 @@ pub record Asks (r : Replica) (c : ℕ) (channel : BundleChannel) (journal : Jou
   pub all_sent : sent journal ask None ≡ Ok all
   pub now : t ≡ run (with_opened r channel) (Position c ∷ [])
 
--- a channel is opened under this number and positioned, and receives all that its source sends
-pub record ServesOne (apply : Apply) (r : Replica) (c : ℕ) (channel : BundleChannel) (journal : JournalValue) (t : Replica) : Type 0 where
-  pub all : List Entry
-  pub asking : Replica
-  pub asks : Asks r c channel journal all asking
-  pub received : Receives apply asking c all t
-
--- each journal in turn, on a channel of its own; the first has this number
+-- Each journal on a channel of its own; the first has this number. All channels are opened and positioned in turn, and then each receives
+-- all that its source sends, the last one first.
 abbrev pub ServesEach : Apply → Replica → ℕ → List BundleChannel → List JournalValue → Replica → Type 0
 ServesEach apply r c channels [] t = t ≡ r
 ServesEach apply r c [] (j ∷ js) t = ⊥
-ServesEach apply r c (ch ∷ channels) (j ∷ js) t = (s : Replica) × ServesOne apply r c ch j s × ServesEach apply s (c + 1) channels js t
+ServesEach apply r c (ch ∷ channels) (j ∷ js) t =
+    (all : List Entry) × (asking : Replica) × (others : Replica)
+    × Asks r c ch j all asking × ServesEach apply asking (c + 1) channels js others × Receives apply others c all t
 
 -- the replica of a bundle, before it has a channel
 abbrev pub opening : BundleValue → Replica
@@ -93,7 +89,8 @@ opening b = new_replica_with b.replica b.start b.opened
 abbrev pub IsServed : Apply → BundleValue → Replica → Type 0
 IsServed apply b core = ServesEach apply (opening b) 0 b.channels b.journals core
 
--- ... and each entry was applied as it came, and what was left afterwards: each channel is stopped, or has executed all that it received
+-- the replica of the bundle was served, and each entry was applied on receipt or afterwards: each channel is stopped, or has executed all
+-- that it received
 pub record IsApplied (b : BundleValue) (core : Replica) : Type 0 where
   pub served : Replica
   pub received : IsServed AtOnce b served

@@ -3,15 +3,15 @@ use Rattle.std.specs.Prelude.{◌≡◌, ℕ, Bool, true, false, List, map, take
 use Rattle.journal.specs.Journals.{JournalValue}
 use Rattle.apply_channel.specs.Channels.{ChannelValue}
 use Rattle.replica_core.specs.State.{State, Replica}
-use Rattle.source_history.specs.World.{World}
+use Rattle.history.specs.Sources.{World}
 use Rattle.world.specs.Audit.{world_of, verdict, verdict_of_keys}
 use Rattle.world.specs.declared.verdict.Verdict.{Verdict}
 use Rattle.world.specs.declared.verdict.Verdict.TheVariants.{Sound}
-use Rattle.ordered_history.specs.World as ordered
-use Rattle.ordered_bundles.specs.Audit as in_order
-use Rattle.ordered_bundles.specs.Meaning.{joined_world}
-use Rattle.ordered_replicas.specs.Deciding as runs
-use Rattle.faithful_runs.specs.Deciding.{HoldsAll}
+use Rattle.history.specs.World as ordered
+use Rattle.world.specs.AuditInOrder as in_order
+use Rattle.world.specs.MeaningInOrder.{joined_world}
+use Rattle.convergence.specs.Deciding as runs
+use Rattle.convergence.specs.Auditing.{HoldsAllOver}
 use Rattle.txn_journal.specs.BundleStates.{BundleValue}
 use Rattle.txn_journal.specs.declared.bundle.BundleChannel.{BundleChannel}
 use Rattle.serving.specs.declared.order.Order.{Order}
@@ -39,7 +39,7 @@ verdict_by ByConflict world journals = in_order.verdict_in_order world journals
 -- the verdict of that audit without the application of transactions
 abbrev pub keys_by : Order → World → List JournalValue → Verdict
 keys_by BySource world journals = verdict_of_keys world journals
-keys_by ByConflict world journals = in_order.verdict_of_keys world journals
+keys_by ByConflict world journals = in_order.verdict_of_keys_in_order world journals
 
 abbrev pub verdict_over : Order → BundleValue → Verdict
 verdict_over order b = verdict_by order (world_over b) b.journals
@@ -51,12 +51,12 @@ keys_over order b = keys_by order (world_over b) b.journals
 abbrev pub IsUnsound : Order → BundleValue → Verdict → Type 0
 IsUnsound order b v = (v ≡ verdict_over order b) × (v ≡ Sound → ⊥)
 
--- what the audit of keys finds, where that is not Sound, is what the audit finds
+-- what the audit of keys finds, if that is not Sound, is what the audit finds
 abbrev pub IsFoundInKeys : Order → BundleValue → Option Verdict → Type 0
 IsFoundInKeys order b None = keys_over order b ≡ Sound
 IsFoundInKeys order b (Some v) = IsUnsound order b v
 
--- the verdict, where there is one, is that of the audit of keys
+-- the verdict, if there is one, is that of the audit of keys
 abbrev pub IsOfKeys : Order → BundleValue → Option Verdict → Type 0
 IsOfKeys order b None = Unit {0}
 IsOfKeys order b (Some v) = v ≡ keys_over order b
@@ -78,7 +78,7 @@ pub record IsNamed (b : BundleValue) (core : Replica) : Type 0 where
 
 -- the executed set is that of all journals together, and the rows are those that it denotes: of the sources, or in the joined order
 abbrev pub HoldsAllBy : Order → BundleValue → State → Type 0
-HoldsAllBy BySource b s = HoldsAll b.start.schema b.opened b.start.rows b.journals s
+HoldsAllBy BySource b s = HoldsAllOver b.start.schema b.opened b.start.rows b.journals s
 HoldsAllBy ByConflict b s = runs.HoldsAll (joined_over b) b.journals s
 
 -- The audit reports Sound, and all journals together are executed on the replica of the bundle, with its channels.
@@ -98,7 +98,7 @@ module _ {S : Type 0} where
   IsStateOrVerdict Holds order b (found.State s) = Holds s
   IsStateOrVerdict Holds order b (found.Verdict v) = IsUnsound order b v
 
-  -- the verdict, where there is one, is that of the audit of keys
+  -- the verdict, if there is one, is that of the audit of keys
   abbrev pub IsVerdictOfKeys : Order → BundleValue → StateOrVerdict S → Type 0
   IsVerdictOfKeys order b (found.State s) = Unit {0}
   IsVerdictOfKeys order b (found.Verdict v) = v ≡ keys_over order b

@@ -9,10 +9,10 @@ pub record Leaves (c n : ℕ) (s t : State) : Type 0 where
   pub follows : Follows s t
   pub done : IsDoneBelow n c t
 
--- one place more is done, where nothing is owned
+-- one more place is done, if nothing is owned
 abbrev pub Settles : ℕ → ℕ → State → State → Type 0
 Settles c p s t = NothingIsOwned s → IsDoneBelow p c s → Leaves c (p + 1) s t
 
--- so many places are done, where nothing is owned
+-- this many places are done, if nothing is owned
 abbrev pub Finishes : ℕ → ℕ → State → State → Type 0
 Finishes c n s t = NothingIsOwned s → Leaves c n s t

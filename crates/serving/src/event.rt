@@ -17,7 +17,7 @@ use replica_core::{Core, Event, Reply};
 use std::alloc::Global;
 use txn_journal::BundleChannel;
 
-/// Opens a channel, where none has its name and there is room for one more.
+/// Opens a channel, if none has its name and there is room for one more.
 pub(crate) fn open_channel(
     alloc: Global,
     core: &mut Core,

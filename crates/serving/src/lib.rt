@@ -1,19 +1,18 @@
-//! The journals of a bundle served to its replica, each on a channel of its own, and what they result in.
+//! The journals of a bundle served to its replica, each on a channel of its own, and the result.
 //!
-//! An audit asks for an `Order`: of sources that share no key (`audit`), or of what shares a key, whichever sources wrote it
-//! (`conflict_audit`). `begin` audits the keys by it (`audit_of_keys`), opens a replica and its channels, and lets each receive what `plan` of
-//! `auto_position` sends (`receive_all`). `conclude` decides what a replica results in on which seats have worked since. `serve` lets seat 1
-//! commit each entry as it is received (`apply_all`). `begin` and `serve` give a `StateOrVerdict`: a replica, or the verdict of the audit,
-//! which is not Sound. Their parts only read the bundle and need nothing of one another, so that they may go side by side: the audit decides
+//! An audit asks for an `Order`: of sources that share no key (`audit`), or of what shares a key, whichever sources wrote it (`audit`).
+//! `begin` audits the keys by it (`audit_of_keys`), opens a replica and its channels, and lets each receive what `plan` of `auto_position`
+//! sends (`receive_all`). `conclude` decides the result of a replica on which seats have worked since. `serve` lets seat 1 commit each
+//! entry as it is received (`apply_all`). `begin` and `serve` give a `StateOrVerdict`: a replica, or the verdict of the audit, which is not
+//! Sound. Their parts only read the bundle and need nothing of one another, so that they may run at the same time: the audit decides
 //! whether what was served counts. Serving asks only that no source has purged what the opening set lacks (`can_be_sent`).
 //!
 //! What a contract sees: the bundle as its value, and the replica. Each bundle can be served, for its type keeps the rules of its format
 //! (`keeps_servable`; `IsServable`: at most 256 journals, each with a channel of its own name and transactions that the tables take).
 //!
 //! The contract of `conclude` holds for every replica that was served so and whose seats took, committed and rolled back in any order,
-//! until each channel is stopped or done: None only where the audit reports Sound, all journals are executed, and the rows are those that
-//! their union denotes (`HasMerged`); else exactly the verdict. The proof shows that the run serves all journals, and cites
-//! `faithful_runs`.
+//! until each channel is stopped or done: None only if the audit reports Sound, all journals are executed, and the rows are those that
+//! their union denotes (`HasMerged`); else exactly the verdict. The proof shows that the run serves all journals, and cites `convergence`.
 //!
 //! Errors are out of memory, or a full set for the bundle as a whole (`IsBundleFault`): all GTIDs together have more than 65,536 sources,
 //! or the intervals of its sets and its entries together are more than 4,294,967,294.

@@ -9,10 +9,9 @@ use gtid_set::SetFault;
 use std::alloc::Global;
 use txn_journal::Bundle;
 
-/// The verdict of `verdict_over`, and after it each other GTID under which journals differ, each other
-/// journal that begins after the opening set, each other missing GTID, each other shared key, each other
-/// GTID that is in a journal without what it needs and, where a transaction does not apply by the
-/// verdict, each other source of which one does not (`audit::faults_are_all`). The faults are those of
+/// The verdict of `verdict_over`, and after it each other GTID under which journals differ, each other journal that begins after the
+/// opening set, each other missing GTID, each other shared key, each other GTID that is in a journal without what it needs and, if by the
+/// verdict a transaction does not apply, each other source of which one does not (`audit::faults_are_all`). The faults are those of
 /// `audit::audit_all`.
 pub fn faults_over(alloc: Global, bundle: &Bundle) -> Result<AllFaults, SetFault>
     ensures found { IfOk result (λ all. HoldsFaults all (faults_over bundle.now)) }

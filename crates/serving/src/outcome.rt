@@ -1,4 +1,4 @@
-//! What the journals of a bundle result in.
+//! The result of a bundle's journals.
 ghost use Rattle.std.specs.Prelude.{◌≡◌, true, IfOk, IfErr, IsOkUnless};
 ghost use Rattle.std.specs.List.{list_all};
 ghost use Rattle.std.specs.FinSet as set;
@@ -16,9 +16,10 @@ ghost use Rattle.serving.specs.Verdicts.{is_sound, world_over, keys_over, verdic
 use crate::order::Order;
 use crate::receiving::{Apply, serve_journals};
 use crate::working::finish;
-use audit::{World, audit_keys_of, audit_of, world_of_fitting};
-use conflict_audit::{audit_in_order, audit_keys_in_order};
-use faithful_runs::{
+use audit::{
+    World, audit_in_order, audit_keys_in_order, audit_keys_of, audit_of, world_of_fitting,
+};
+use convergence::{
     served_holds_all, served_holds_all_in_order, workers_decide, workers_decide_in_order,
 };
 use gtid_set::{GtidSet, SetFault};
@@ -76,8 +77,8 @@ pub fn world_of(alloc: Global, bundle: &Bundle) -> Result<World, AllocError>
     )
 }
 
-/// What the audit of the journals' keys finds first over the opening rows, where sources may share no key. Where that is nothing, no world
-/// is made.
+/// What the audit of the journals' keys finds first over the opening rows, if sources may share no key. If it finds nothing, no world is
+/// made.
 fn source_keys_verdict(alloc: Global, bundle: &Bundle) -> Result<Verdict, SetFault>
     ensures found { IfOk result (λ found. found ≡ keys_over BySource bundle.now) }
     ensures fault { IfErr result (IsBundleFault bundle.now) }
@@ -87,7 +88,7 @@ fn source_keys_verdict(alloc: Global, bundle: &Bundle) -> Result<Verdict, SetFau
     audit_keys_of(alloc, opened, bundle.rows(), bundle.journals())
 }
 
-/// What the audit of the journals' keys finds first over the opening rows, where transactions that share a key are in one order.
+/// What the audit of the journals' keys finds first over the opening rows, if transactions that share a key must be in one order.
 fn conflict_keys_verdict(alloc: Global, bundle: &Bundle) -> Result<Verdict, SetFault>
     ensures found { IfOk result (λ found. found ≡ keys_over ByConflict bundle.now) }
     ensures fault { IfErr result (IsBundleFault bundle.now) }
@@ -109,8 +110,8 @@ fn keys_verdict(alloc: Global, bundle: &Bundle, order: Order) -> Result<Verdict,
     }
 }
 
-/// What the audit finds first in a bundle's journals, where sources may share no key. Where one pass shows that the keys are sound, no
-/// world is made.
+/// What the audit finds first in a bundle's journals, if sources may share no key. If one pass shows that the keys are sound, no world is
+/// made.
 fn source_verdict(alloc: Global, bundle: &Bundle) -> Result<Verdict, SetFault>
     ensures found { IfOk result (λ found. found ≡ verdict_over BySource bundle.now) }
     ensures fault { IfErr result (IsVerdictFault bundle.now) }
@@ -120,7 +121,7 @@ fn source_verdict(alloc: Global, bundle: &Bundle) -> Result<Verdict, SetFault>
     audit_of(alloc, opened, bundle.rows(), bundle.journals())
 }
 
-/// What the audit finds first in a bundle's journals, where transactions that share a key are in one order.
+/// What the audit finds first in a bundle's journals, if transactions that share a key must be in one order.
 fn conflict_verdict(alloc: Global, bundle: &Bundle) -> Result<Verdict, SetFault>
     ensures found { IfOk result (λ found. found ≡ verdict_over ByConflict bundle.now) }
     ensures fault { IfErr result (IsVerdictFault bundle.now) }
@@ -131,8 +132,8 @@ fn conflict_verdict(alloc: Global, bundle: &Bundle) -> Result<Verdict, SetFault>
     found
 }
 
-/// What the audit that asks for an order finds first in a bundle's journals over its opening rows and
-/// opening set. The error is a failed allocation, or `PoolFull` where the set that the verdict would name has too many intervals.
+/// What the audit that asks for an order finds first in a bundle's journals over its opening rows and opening set. The error is a failed
+/// allocation, or `PoolFull` if the set that the verdict would name has too many intervals.
 pub fn verdict_over(alloc: Global, bundle: &Bundle, order: Order) -> Result<Verdict, SetFault>
     ensures found { IfOk result (λ found. found ≡ verdict_over order bundle.now) }
     ensures fault { IfErr result (IsVerdictFault bundle.now) }
@@ -143,8 +144,8 @@ pub fn verdict_over(alloc: Global, bundle: &Bundle, order: Order) -> Result<Verd
     }
 }
 
-/// What an audit of the journals' keys finds by an order, where that isn't Sound: the whole audit finds it too.
-/// It needs nothing of a replica, so that it may go on beside `receive_all` or `apply_all`. The faults are those of `begin`.
+/// What an audit of the journals' keys finds by an order, if that isn't Sound: the whole audit finds it too. It needs nothing of a replica,
+/// so that it may run at the same time as `receive_all` or `apply_all`. The faults are those of `begin`.
 #[tactic(auto, using(crate::proofs::Runs::keys_found, crate::proofs::Runs::keys_sound))]
 pub fn audit_of_keys(
     alloc: Global,
@@ -172,8 +173,8 @@ fn have_previous(opened: &GtidSet, journals: &[Journal]) -> bool
         .all(|journal| journal.previous().is_subset(opened))
 }
 
-/// Whether each source sends its journal to the replica: what was purged of it is in the opening set.
-/// Where the audit of keys is Sound it is. (MySQL 8.0 Reference Manual, "GTID Auto-Positioning".)
+/// Whether each source sends its journal to the replica: what was purged of it is in the opening set. If the audit of keys is Sound, it is.
+/// (MySQL 8.0 Reference Manual, "GTID Auto-Positioning".)
 pub fn can_be_sent(bundle: &Bundle) -> bool
     ensures { result ≡ can_be_sent bundle.now }
 {
@@ -232,9 +233,9 @@ pub fn receive_all(alloc: Global, bundle: &Bundle) -> Result<Core, SetFault>
     serve_all(alloc, bundle, Apply::Later)
 }
 
-/// The replica of a bundle, once it was served all journals. Channel by channel, one seat applies each entry as it is received,
-/// and what is left at the end: each channel is stopped then, or has executed all that it received. The keys
-/// are not audited. The faults are those of `begin`.
+/// The replica of a bundle, once it was served all journals. Channel by channel, one seat applies each entry on receipt, and at the end
+/// what is left: then each channel is stopped, or has executed all that it received. The keys are not audited. The faults are those of
+/// `begin`.
 #[tactic(auto, using(crate::proofs::Runs::is_applied))]
 pub fn apply_all(alloc: Global, bundle: &Bundle) -> Result<Core, SetFault>
     requires { can_be_sent bundle.now ≡ true }
@@ -246,13 +247,12 @@ pub fn apply_all(alloc: Global, bundle: &Bundle) -> Result<Core, SetFault>
     Ok(core)
 }
 
-/// Audits the keys of a bundle's journals by an order, opens its replica over the opening rows and set, opens and positions
-/// each channel, and lets it receive what its journal sends. Where the audit of keys isn't Sound, the
-/// result is its verdict, which is that of the whole audit.
+/// Audits the keys of a bundle's journals by an order, opens its replica over the opening rows and set, opens and positions each channel,
+/// and lets it receive what its journal sends. If the audit of keys isn't Sound, the result is its verdict, which is that of the whole
+/// audit.
 ///
-/// `Memory` is a failed allocation, `SourcesFull` comes only where the GTIDs of all journals together are of
-/// more than 65,536 sources, and `PoolFull` only where the intervals of the opening set and of the
-/// previous sets and the entries are together more than 4,294,967,294.
+/// `Memory` is a failed allocation, `SourcesFull` comes only if the GTIDs of all journals together are of more than 65,536 sources, and
+/// `PoolFull` only if the intervals of the opening set and of the previous sets and the entries are together more than 4,294,967,294.
 #[tactic(auto, using(crate::proofs::Conditions::sound_is_sent))]
 pub fn begin(alloc: Global, bundle: &Bundle, order: Order) -> Result<StateOrVerdict<Core>, SetFault>
     ensures begun { IfOk result (IsStateOrVerdict (IsReady order bundle.now) order bundle.now) }
@@ -266,9 +266,8 @@ pub fn begin(alloc: Global, bundle: &Bundle, order: Order) -> Result<StateOrVerd
     Ok(StateOrVerdict::State(core))
 }
 
-/// What a replica that was served all journals results in, once each of its channels is stopped or has
-/// executed all that it received: nothing where all is executed, or else the verdict of the audit, which
-/// isn't Sound then. The faults are those of `verdict_over`.
+/// The result of a replica that was served all journals, once each of its channels is stopped or has executed all that it received: nothing
+/// if all is executed, or else the verdict of the audit, which isn't Sound then. The faults are those of `verdict_over`.
 pub fn conclude(
     alloc: Global,
     bundle: &Bundle,
@@ -292,8 +291,8 @@ pub fn conclude(
     Ok(Some(verdict))
 }
 
-/// What a replica results in to which all journals were applied (`apply_all`), where the audit of their keys is Sound
-/// (`audit_of_keys`): the replica where all is executed, or else the verdict of the audit. The faults are those of `verdict_over`.
+/// The result of a replica to which all journals were applied (`apply_all`), if the audit of their keys is Sound (`audit_of_keys`): the
+/// replica if all is executed, or else the verdict of the audit. The faults are those of `verdict_over`.
 #[tactic(auto, using(crate::proofs::Runs::applied_is_run))]
 pub fn conclude_applied(
     alloc: Global,
@@ -320,10 +319,9 @@ pub fn conclude_applied(
     }
 }
 
-/// What the journals of a bundle result in over its opening rows and set: all of them executed together, or the
-/// verdict of their audit, where that is not Sound. It is made of `audit_of_keys`, `apply_all` and `conclude_applied`:
-/// where not everything was executed, the audit gives the reason.
-/// The faults are those of `begin`.
+/// The result of a bundle's journals over its opening rows and set: all of them executed together, or the verdict of their audit, if that
+/// is not Sound. It is made of `audit_of_keys`, `apply_all` and `conclude_applied`: if not everything was executed, the audit gives the
+/// reason. The faults are those of `begin`.
 #[tactic(auto, using(crate::proofs::Conditions::sound_is_sent))]
 pub fn serve(alloc: Global, bundle: &Bundle, order: Order) -> Result<StateOrVerdict<Core>, SetFault>
     ensures served { IfOk result (IsStateOrVerdict (HasMerged order bundle.now) order bundle.now) }

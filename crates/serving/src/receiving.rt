@@ -6,7 +6,7 @@ ghost use Rattle.gtid_set.specs.declared.fault.SetFault.TheVariants.{Memory};
 ghost use Rattle.auto_position.specs.Sending.{IsRefusal, IsPlanFault, sent};
 ghost use Rattle.serving.specs.Faults.{IsFaultWhere, KnowsWith, KnowsToo};
 ghost use Rattle.serving.specs.Servable.{CanReceive, CanServe, CanServeEach};
-ghost use Rattle.serving.specs.Serving.{pick_entries, Receives, Asks, ServesOne, ServesEach};
+ghost use Rattle.serving.specs.Serving.{pick_entries, Receives, Asks, ServesEach};
 
 use crate::event::{open_channel, position, receive};
 use auto_position::{PositionFault, plan};
@@ -37,8 +37,8 @@ fn entries_at(alloc: Global, entries: &[Entry], places: &[u64]) -> Result<Vec<En
     Ok(found)
 }
 
-/// The entries that a journal sends to a replica that asks with a set, in journal order, or why its source refuses.
-/// `own` is the source's own UUID, where it has one. (MySQL 8.0 Reference Manual, "GTID Auto-Positioning".)
+/// The entries that a journal sends to a replica that asks with a set, in journal order, or why its source refuses. `own` is the source's
+/// own UUID, if it has one. (MySQL 8.0 Reference Manual, "GTID Auto-Positioning".)
 #[tactic(auto, using(crate::proofs::Sending::places_below))]
 pub fn entries_sent(
     alloc: Global,
@@ -58,7 +58,7 @@ pub fn entries_sent(
     }
 }
 
-/// The places of what a journal sends to a replica that asks with this set, where no source's UUID is known.
+/// The places of what a journal sends to a replica that asks with this set, if the source's own UUID is not known.
 #[tactic(auto, using(crate::proofs::Sending::never_refuses, crate::proofs::Sending::places_below))]
 fn places_sent(alloc: Global, journal: &Journal, asked: &GtidSet) -> Result<Vec<u64>, SetFault>
     requires { set.is_subset journal.now.previous asked.now ≡ true }
@@ -83,8 +83,7 @@ pub(crate) enum Apply {
     AtOnce,
 }
 
-/// A channel receives the entries at these places. Where each is applied before the next is received, only one waits,
-/// whatever their number.
+/// A channel receives the entries at these places. If each is applied before the next is received, only one waits, whatever their number.
 #[tactic(auto, using(crate::proofs::Runs::receives_none, crate::proofs::Sending::below_at))]
 fn feed(
     alloc: Global,
@@ -127,25 +126,9 @@ fn ask_for(
     places_sent(alloc, journal, &asked)
 }
 
-/// A channel is opened and positioned, and receives all that its journal sends.
-fn serve_journal(
-    alloc: Global,
-    core: &mut Core,
-    number: usize,
-    channel: &BundleChannel,
-    journal: &Journal,
-    apply: Apply,
-) -> Result<(), SetFault>
-    requires { CanServe number channel.now.name journal.now core.old }
-    ensures served { OnOk result (ServesOne apply core.old number channel.now journal.now core.new) }
-    ensures fault { IfErr result (IsFaultWhere (KnowsToo core.old.state (journal.now ∷ []))) }
-{
-    let places = ask_for(alloc, core, number, channel, journal)?;
-    feed(alloc, core, number, journal.entries(), &places, apply)
-}
-
-/// Each journal in turn, on a channel of its own; the first has this number.
-#[tactic(auto, using(crate::proofs::Conditions::serve_rest, crate::proofs::Runs::serves_more, crate::proofs::Knowing::first_fault, crate::proofs::Knowing::rest_fault))]
+/// Each journal on a channel of its own; the first has this number. All channels are opened and positioned before one receives, so that
+/// they ask with one set, which is kept once.
+#[tactic(auto, using(crate::proofs::Conditions::serve_rest, crate::proofs::Knowing::first_fault, crate::proofs::Knowing::rest_fault))]
 pub(crate) fn serve_journals(
     alloc: Global,
     core: &mut Core,
@@ -164,6 +147,7 @@ pub(crate) fn serve_journals(
     let Some((channel, rest)) = channels.split_first() else {
         unreachable!()
     };
-    serve_journal(alloc, core, number, channel, journal, apply)?;
-    serve_journals(alloc, core, number + 1, rest, others, apply)
+    let places = ask_for(alloc, core, number, channel, journal)?;
+    serve_journals(alloc, core, number + 1, rest, others, apply)?;
+    feed(alloc, core, number, journal.entries(), &places, apply)
 }

@@ -28,7 +28,7 @@ fn is_waiting(core: &Core, channel: usize, place: usize) -> bool
     }
 }
 
-/// Seat 1 takes a place and commits it, where that is left to do.
+/// Seat 1 takes a place and commits it, if that is left to do.
 #[tactic(auto, using(crate::proofs::Runs::applies_none, crate::proofs::Settling::settles_none))]
 fn work_at(alloc: Global, core: &mut Core, channel: usize, place: usize) -> Result<(), SetFault>
     ensures applies { OnOk result (Applies AtOnce core.old core.new) }
@@ -70,7 +70,7 @@ fn work_on_all(alloc: Global, core: &mut Core) -> Result<(), SetFault>
         };
         work_on(alloc, core, channel, count)?;
     }
-    // No memory holds so many channels.
+    // (no memory holds as many channels)
     Err(SetFault::Memory)
 }
 
@@ -88,8 +88,7 @@ fn free_all(alloc: Global, core: &mut Core) -> Result<(), SetFault>
     Ok(())
 }
 
-/// One seat applies what is left, if anything is: each channel is stopped then, or all that it received is
-/// executed.
+/// One seat applies what is left, if anything is: then each channel is stopped, or all that it received is executed.
 #[tactic(auto, using(crate::proofs::Runs::applies_none, crate::proofs::Runs::drained_done, crate::proofs::Runs::applies_more, crate::proofs::Knowing::later_fault))]
 pub(crate) fn finish(alloc: Global, core: &mut Core) -> Result<(), SetFault>
     ensures applies { OnOk result (Applies AtOnce core.old core.new) }

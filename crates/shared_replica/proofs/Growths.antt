@@ -8,6 +8,8 @@ use Rattle.std.specs.FinSet.{len-insert}
 use Rattle.std.specs.FinMap as finmap
 use Rattle.std.proofs.lemmas.List.Elements.{All-get_or}
 use Rattle.std.proofs.lemmas.Option.{slice_get_within, get_or_from_slice_get}
+use Rattle.lemmas.proofs.Options.{map_some, and_then_some}
+use Rattle.lemmas.proofs.SameGtid.{gtid_total}
 use Rattle.gtid_text.specs.declared.Gtid.{Gtid}
 use Rattle.gtid_set.specs.Sets.{Gtids, gtid, least_number, greatest}
 use Rattle.rows.specs.declared.schema.Table.{Table}
@@ -28,8 +30,6 @@ use Rattle.replica_core.specs.Machine.{Step, is_seat, Held, held, held_at, held_
 use Rattle.shared_replica.specs.History.{is_commit, IsStep}
 use Rattle.commit_ledger.specs.Tallies.{one_if}
 use Rattle.shared_replica.proofs.Quiet.{Quiet, either_way, any_option, quiet_open, quiet_receive, quiet_take, quiet_rollback, quiet_restart}
-use Rattle.gtid_text.proofs.SameGtid.{gtid_total}
-use Rattle.rows.proofs.Lists.{map_some, and_then_some}
 use Rattle.replica_core.proofs.ReceiveLemmas.{found_by}
 
 -- the executed set has grown by one where the reply is Committed, and not else

@@ -39,7 +39,7 @@ pub record IsMerge (passes : List PassValue) (steps : List Step) : Type 0 where
 abbrev pub sheet : PassValue → Sheet
 sheet p = record { seat = p.seat; receipts = p.receipts }
 
--- the receipts of a seat, none where it has no sheet
+-- the receipts of a seat, none if it has no sheet
 abbrev pub receipts_of : ℕ → List Sheet → List Receipt
 receipts_of seat [] = []
 receipts_of seat (s ∷ ss) = if s.seat == seat then s.receipts else receipts_of seat ss

@@ -18,6 +18,6 @@ makes_a_set (event.Local changes) = true
 makes_a_set (event.Purge count) = true
 makes_a_set event.Look = false
 
--- memory was refused, or the set that the event makes would have too many sources or intervals
+-- out of memory, or the set that the event makes would have too many sources or intervals
 abbrev pub IsFaultFor : Event → SetFault → Type 0
 IsFaultFor e f = IsMemoryOr (makes_a_set e ≡ true) (makes_a_set e ≡ true) f

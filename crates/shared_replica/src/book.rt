@@ -68,8 +68,7 @@ impl<N: Naming> Book<N> {
         }
     }
 
-    /// One step, with its line in the history and its receipt. A Commit uses a patch, where there is
-    /// one. After an error nothing has changed.
+    /// One step, with its line in the history and its receipt. A Commit uses a patch, if there is one. After an error nothing has changed.
     #[tactic(auto, using(crate::proofs::Faulty::fault_for))]
     pub(crate) fn make(
         &mut self,
@@ -106,7 +105,7 @@ impl<N: Naming> Book<N> {
     }
 }
 
-/// One event of a core: a Commit by a patch, where there is one.
+/// One event of a core: a Commit by a patch, if there is one.
 fn step_of(
     core: &mut Core,
     alloc: Global,
@@ -146,8 +145,8 @@ impl<N: Naming> Book<N> {
         self.core.held_changes(seat).is_some()
     }
 
-    /// What a seat's worker needs to prepare the transaction that the seat holds, where it has so many changes. Nothing where memory is
-    /// refused.
+    /// What a seat's worker needs to prepare the transaction that the seat holds, if that has at least `least` changes. Nothing if out of
+    /// memory.
     fn footprint_of_many(
         &self,
         alloc: Global,
@@ -162,7 +161,7 @@ impl<N: Naming> Book<N> {
         self.footprint(alloc, seat).ok().flatten()
     }
 
-    /// The seat takes a place, and is given what its worker needs to prepare a transaction of so many changes.
+    /// The seat takes a place, and is given what its worker needs to prepare a transaction of at least `least` changes.
     pub(crate) fn take(
         &mut self,
         alloc: Global,

@@ -5,7 +5,7 @@ ghost use Rattle.replica_core.specs.Faults.{IsCause, HasRoomFor, set_made_by};
 ghost use Rattle.shared_replica.specs.History.{line, IsStep, IsReplay};
 ghost use Rattle.shared_replica.specs.Closing.{closed_at_start, receipts_of};
 
-use crate::draft::Draft;
+use crate::draft::StepDraft;
 use crate::room::add;
 use crate::step::{Receipt, Sheet, Step};
 use commit_ledger::Counts;
@@ -82,7 +82,7 @@ impl ClosedBook {
         self.steps.as_slice()
     }
 
-    /// The receipts of a seat in order, none where it was not opened.
+    /// The receipts of a seat in order, none if it was not opened.
     pub fn receipts(&self, seat: u8) -> &[Receipt]
         ensures { result.now ≡ receipts_of seat self.now.sheets }
     {
@@ -102,10 +102,9 @@ impl ClosedBook {
         self.counts
     }
 
-    /// One step more, for which there is no receipt. After an error nothing has changed; another error
-    /// than `Memory` comes only where the set that the event makes has no room, and `Memory` only where
-    /// that set has not too many sources. The numbers of received
-    /// GTIDs are 1 to 9223372036854775807.
+    /// One step more, for which there is no receipt. After an error nothing has changed; another error than `Memory` comes only if the set
+    /// that the event makes has no room, and `Memory` only if that set has not too many sources. The numbers of received GTIDs are 1 to
+    /// 9223372036854775807.
     pub fn step(&mut self, alloc: Global, event: &Event) -> Result<Reply, SetFault>
         requires { is_numbered event.now ≡ true }
         ensures step { IfOk result (λ r. IsStep self.old.now event.now r self.new.now) }
@@ -117,7 +116,7 @@ impl ClosedBook {
         if self.steps.reserve(1).is_err() {
             return Err(self.core.refusal(event));
         }
-        let draft = Draft::of(&self.core, alloc, event)?;
+        let draft = StepDraft::of(&self.core, alloc, event)?;
         let reply = self.core.step(alloc, event)?;
         add(&mut self.steps, draft.with_reply(&reply));
         Ok(reply)

@@ -15,19 +15,19 @@ use std::alloc::Global;
 /// A step before its reply: a copy of its event, and the set that the reply will show, if it shows
 /// one.
 #[derive(Drop)]
-pub(crate) struct Draft {
+pub(crate) struct StepDraft {
     event: Event,
     spare: Option<GtidSet>,
 }
 
-impl Draft {
+impl StepDraft {
     /// A draft of the step that an event will make of a core.
-    pub(crate) fn of(core: &Core, alloc: Global, event: &Event) -> Result<Draft, SetFault>
+    pub(crate) fn of(core: &Core, alloc: Global, event: &Event) -> Result<StepDraft, SetFault>
         ensures ok { IfOk result (IsDraft core.now event.now) }
         ensures fault { IfErr result (λ f. IsCause f core.now.site core.now.state event.now) }
         ensures room { IfErr result (λ f. HasRoomFor f (set_made_by core.now.site core.now.state event.now)) }
     {
-        match Draft::copy(core, alloc, event) {
+        match StepDraft::copy(core, alloc, event) {
             Ok(draft) => Ok(draft),
             Err(SetFault::Memory) => Err(core.refusal(event)),
             Err(fault) => Err(fault),
@@ -36,13 +36,13 @@ impl Draft {
 
     /// The same; any fault may be a failed allocation.
     #[tactic(auto, using(crate::proofs::Faulty::memory_anywhere))]
-    fn copy(core: &Core, alloc: Global, event: &Event) -> Result<Draft, SetFault>
+    fn copy(core: &Core, alloc: Global, event: &Event) -> Result<StepDraft, SetFault>
         ensures ok { IfOk result (IsDraft core.now event.now) }
         ensures fault { IfErr result (λ f. IsCause f core.now.site core.now.state event.now) }
     {
         let spare = set_of_reply(core, alloc, event)?;
         let event = copy_of(event)?;
-        Ok(Draft { event, spare })
+        Ok(StepDraft { event, spare })
     }
 
     /// The step with its reply. It does not allocate.
@@ -50,7 +50,7 @@ impl Draft {
         requires { IsSpare reply.now self.spare }
         ensures { result ≡ line self.event reply.now }
     {
-        let Draft { event, spare } = self;
+        let StepDraft { event, spare } = self;
         Step {
             event,
             reply: twin(reply, spare),
@@ -61,8 +61,8 @@ impl Draft {
 /// The two drafts of a step: of its line in the history, and of its receipt.
 #[derive(Drop)]
 pub(crate) struct Drafts {
-    pub(crate) line: Draft,
-    pub(crate) receipt: Draft,
+    pub(crate) line: StepDraft,
+    pub(crate) receipt: StepDraft,
 }
 
 /// Room for a step's line and for its receipt, and a draft of both.
@@ -87,7 +87,7 @@ pub(crate) fn drafts_of(
     if receipts.reserve(1).is_err() {
         return Err(core.refusal(event));
     }
-    let line = Draft::of(core, alloc, event)?;
-    let receipt = Draft::of(core, alloc, event)?;
+    let line = StepDraft::of(core, alloc, event)?;
+    let receipt = StepDraft::of(core, alloc, event)?;
     Ok(Drafts { line, receipt })
 }

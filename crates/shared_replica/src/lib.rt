@@ -1,9 +1,9 @@
 //! A replica under one lock, for threads that each hold a pass. The threads are linearizable: the calls of each thread are, in order, in
 //! one sequential history, and `close` proves that the logs of all threads cover it.
 //!
-//! What a contract sees: a `SharedReplica` is the core that it was opened with and the number of its seats; a `Pass` is its seat, what
-//! its share has counted, and its log of receipts, each a step (event and reply) with its place in the history; a `ClosedBook` is the
-//! opening, the steps, the core after them, each seat's receipts and the counts. A type parameter (`Naming`) names one shared replica.
+//! What a contract sees: a `SharedReplica` is the core with which it was opened and the number of its seats; a `Pass` is its seat, what its
+//! share has counted, and its log of receipts, each a step (event and reply) with its place in the history; a `ClosedBook` is the opening,
+//! the steps, the core after them, each seat's receipts and the counts. A type parameter (`Naming`) names one shared replica.
 //!
 //! Under the lock (`IsBook`): the steps are what the machine does from the opening, reply for reply, and leave the core that is there;
 //! the total (`commit_ledger`) counts them. Each of the eleven calls has one clause, `Makes`: after a reply the pass has one step and one

@@ -75,7 +75,7 @@ impl<N: Naming> SharedReplica<N> {
     {
         match prepare::<N>(alloc, blanks, seats) {
             Ok(ready) => {
-                let Ready {
+                let OpenParts {
                     sheets,
                     total,
                     passes,
@@ -94,10 +94,9 @@ impl<N: Naming> SharedReplica<N> {
         }
     }
 
-    /// Ends the sharing. It is refused where there are fewer passes than seats, or where the receipts
-    /// are not the steps: each step with the line at its place, the places of a pass ascending, no place
-    /// twice, and none without a receipt. All is then handed back. It waits for nothing and does not
-    /// allocate.
+    /// Ends the sharing. It is refused if there are fewer passes than seats, or if the receipts are not the steps: each step with the line
+    /// at its place, the places of a pass ascending, no place twice, and none without a receipt. All is then handed back. It waits for
+    /// nothing and does not allocate.
     pub fn close(self, passes: Vec<Pass<N>>) -> Result<ClosedBook, (SharedReplica<N>, Vec<Pass<N>>)>
         ensures ok { IfOk result (λ b. IsClosed self passes.items b) }
         ensures err { IfErr result (λ r. (r.0 ≡ self) × (r.1.items ≡ passes.items)) }
@@ -144,9 +143,9 @@ impl<N: Naming> SharedReplica<N> {
         self.book.lock(rt).holds(pass.seat())
     }
 
-    /// What a worker needs to prepare the transaction that the pass's seat holds, without the lock:
-    /// the transaction, which the schema takes, and all keys that it touches with the rows that carried
-    /// them at that moment. None where the seat holds nothing. It leaves no line and no receipt.
+    /// What a worker needs to prepare the transaction that the pass's seat holds, without the lock: the transaction, which the schema
+    /// takes, and all keys that it touches with the rows that carried them at that moment. None if the seat holds nothing. It leaves no
+    /// line and no receipt.
     pub fn footprint<R: Wait>(
         &self,
         rt: &R,
@@ -159,11 +158,9 @@ impl<N: Naming> SharedReplica<N> {
     }
 }
 
-/// The ten events. Each call returns the reply that the core gave under the lock. The pass then has
-/// one step more in its share, one commit more if the reply is Committed, and a receipt of the event,
-/// with the pass's seat where the event has one, and of that reply. After an error neither the pass
-/// nor the history has changed: memory was refused, or the set that the event makes would have too many
-/// sources or intervals.
+/// The ten events. Each call returns the reply that the core gave under the lock. The pass then has one step more in its share, one commit
+/// more if the reply is Committed, and a receipt of the event, with the pass's seat if the event has one, and of that reply. After an error
+/// neither the pass nor the history has changed: out of memory, or the set that the event makes would have too many sources or intervals.
 impl<N: Naming> SharedReplica<N> {
     /// Opens a channel of this name, which preserves the order of its places or not.
     pub fn open_channel<R: Wait>(
@@ -227,9 +224,8 @@ impl<N: Naming> SharedReplica<N> {
         )
     }
 
-    /// The seat takes the transaction at a place of a channel, and is given what it needs to prepare a
-    /// transaction of at least so many changes. Where memory for that is refused, the take is
-    /// made, and nothing is given.
+    /// The seat takes the transaction at a place of a channel, and is given what it needs to prepare a transaction of at least `least`
+    /// changes. If there is no memory for that, the take is made, and nothing is given.
     pub fn take_to_prepare<R: Wait>(
         &self,
         rt: &R,
@@ -336,7 +332,7 @@ impl<N: Naming> SharedReplica<N> {
 }
 
 impl<N: Naming> SharedReplica<N> {
-    /// One event under the lock. A Commit uses a patch, where there is one.
+    /// One event under the lock. A Commit uses a patch, if there is one.
     fn make<R: Wait>(
         &self,
         rt: &R,
@@ -353,13 +349,13 @@ impl<N: Naming> SharedReplica<N> {
 }
 
 /// What `open` makes before it takes the core.
-struct Ready<N: Naming> {
+struct OpenParts<N: Naming> {
     sheets: Vec<Sheet>,
     total: Total<LedgersOf<N>>,
     passes: Vec<Pass<N>>,
 }
 
-fn prepare<N: Naming>(alloc: Global, blanks: Blanks, seats: u8) -> Result<Ready<N>, AllocError>
+fn prepare<N: Naming>(alloc: Global, blanks: Blanks, seats: u8) -> Result<OpenParts<N>, AllocError>
     requires steps { (blanks.steps.name ≡ N.steps_name) × (blanks.steps.parts ≡ N.seats) }
     requires commits { (blanks.commits.name ≡ N.commits_name) × (blanks.commits.parts ≡ N.seats) }
     requires seats { (seats ≡ N.seats) × (1 ≤ seats) × (seats ≤ 64) }
@@ -371,7 +367,7 @@ fn prepare<N: Naming>(alloc: Global, blanks: Blanks, seats: u8) -> Result<Ready<
     let sheets = Vec::with_capacity(alloc, seats as usize)?;
     let (total, shares) = open_shares::<LedgersOf<N>>(alloc, blanks, seats as u64)?;
     let passes = passes_of(alloc, shares)?;
-    Ok(Ready {
+    Ok(OpenParts {
         sheets,
         total,
         passes,

@@ -2,7 +2,7 @@
 ghost use Rattle.std.specs.Prelude.{◌≡◌, ◌++◌, ◌∷◌, [], ◌<◌, ◌≤◌, ◌+◌, vec_len};
 ghost use Rattle.std.specs.Vec.{vec_capacity};
 
-/// Puts an item at the end, where there is room.
+/// Appends an item, if there is room.
 pub fn add<T: Drop>(list: &mut Vec<T>, item: T)
     requires { vec_len list.old < vec_capacity list.old }
     ensures items { list.new.items ≡ list.old.items ++ item ∷ [] }

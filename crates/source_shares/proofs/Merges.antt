@@ -1,5 +1,5 @@
 -- The rows of shares are parts of those of all journals together.
-use Rattle.std.proofs.Common.{map, ◌≡◌, ℕ, zero, suc, ◌<◌, ◌==◌, Bool, true, false, cond, inl, inr, List, [], ◌∷◌, length, Option, Some, None, Ok, refl, sym, ap, subst, ◌∙◌}
+use Rattle.std.proofs.Common.{map, ◌≡◌, ℕ, ◌<◌, ◌==◌, Bool, true, false, cond, inl, inr, List, [], ◌∷◌, length, Option, Some, None, Ok, refl, sym, ap, subst, ◌∙◌}
 use Rattle.std.specs.Prelude.{IfSome, slice_get}
 use Rattle.std.specs.List.{filter, AllByRecursion}
 use Rattle.std.specs.Option.{unwrap_or}
@@ -7,24 +7,23 @@ use Rattle.std.specs.FinMap as finmap
 use Rattle.std.specs.FinSet as set
 use Rattle.std.proofs.lemmas.Bool.{or_cases, or_left, or_right}
 use Rattle.std.proofs.lemmas.List.{length-map}
-use Rattle.std.proofs.lemmas.Option.{same_Some}
+use Rattle.lemmas.proofs.SameGtid.{gtid_total}
+use Rattle.lemmas.proofs.Lists.{get_map, get_map_cases}
 use Rattle.gtid_text.specs.declared.Gtid.{Gtid}
-use Rattle.gtid_text.proofs.SameGtid.{gtid_total}
 use Rattle.gtid_set.specs.Sets.{Gtids}
 use Rattle.rows.specs.Apply.{Rows}
 use Rattle.rows.specs.Database.{Database}
-use Rattle.rows.proofs.Lists.{get_map_cases, none_some}
 use Rattle.journal.specs.declared.Entry.{Entry}
 use Rattle.journal.specs.Journals.{JournalValue, whole}
-use Rattle.ordered_history.proofs.Placing.{all_map}
-use Rattle.ordered_history.proofs.Merging.{got}
-use Rattle.ordered_journals.proofs.Covering.{is_entry, entries_append, in_whole}
-use Rattle.ordered_replicas.specs.Deciding.{all_of}
-use Rattle.source_history.specs.World.{World, content, apply_all, entries_in, rows_of, AreKeysSound, IsSound}
-use Rattle.source_history.specs.World as history
-use Rattle.source_history.specs.Shares.{AreShares, of_sources}
-use Rattle.source_history.proofs.Entries.{found}
-use Rattle.source_history.proofs.Shares.{shares_are_parts}
+use Rattle.history.proofs.Placing.{all_map}
+use Rattle.history.proofs.Merging.{got}
+use Rattle.history.proofs.Covering.{is_entry, entries_append, in_whole}
+use Rattle.convergence.specs.Deciding.{all_of}
+use Rattle.history.specs.Sources.{World, content, apply_all, rows_of, AreKeysSound, IsSound}
+use Rattle.history.specs.Sources as history
+use Rattle.history.specs.Shares.{AreShares, of_sources}
+use Rattle.history.proofs.SourceEntries.{found}
+use Rattle.history.proofs.Shares.{shares_are_parts}
 use Rattle.world.specs.declared.verdict.Verdict.TheVariants.{Sound}
 use Rattle.world.specs.Audit.{all_entries, does_not_apply, found_in_keys, verdict, verdict_of_keys, world_of}
 use Rattle.world.specs.Folds.{shared_from}
@@ -64,11 +63,6 @@ share_below count ((named, share) ∷ pairs) some are source = by (named == sour
     by : (b : Bool) → share < count → share_in pairs source < count → cond b share (share_in pairs source) < count
     by true own later = own
     by false own later = later
-
-get_map : {A B : Type 0} (f : A → B) (xs : List A) (i : ℕ) (x : A) → slice_get xs i ≡ Some x → slice_get (map f xs) i ≡ Some (f x)
-get_map f [] i x e = none_some x e
-get_map f (y ∷ xs) zero x e = ap (λ z. Some (f z)) (same_Some y x e)
-get_map f (y ∷ xs) (suc i) x e = get_map f xs i x e
 
 -- the rows of each, where each was found
 pub part_at : (found : List (Option Database)) (parts : List Database) (i : ℕ) (rows : Rows) → map Some parts ≡ found → slice_get (map (λ (p : Database). p.rows) parts) i ≡ Some rows

@@ -7,16 +7,16 @@ use Rattle.std.proofs.lemmas.Grind.{flat_map-append}
 use Rattle.rows.specs.declared.schema.Table.{Table}
 use Rattle.journal.specs.declared.Entry.{Entry}
 use Rattle.audit.specs.Owned.{touches_in_lists, touches_of, touches_of_all}
-use Rattle.audit.specs.declared.parted.Touch.{Touch}
+use Rattle.audit.specs.declared.parted.MarkTouch.{MarkTouch}
 use Rattle.source_shares.specs.Apart.{AreAllFound}
 
 -- what is touched by the entries of two halves
-pub both_listed : (schema : List Table) (all front back : List (Bor Entry)) (first second : List (Vec Touch)) → all ≡ front ++ back
+pub both_listed : (schema : List Table) (all front back : List (Bor Entry)) (first second : List (Vec MarkTouch)) → all ≡ front ++ back
     → touches_in_lists first ≡ touches_of_all schema (map (λ (e : Bor Entry). e.now) front) → touches_in_lists second ≡ touches_of_all schema (map (λ (e : Bor Entry). e.now) back)
     → touches_in_lists (first ++ second) ≡ touches_of_all schema (map (λ (e : Bor Entry). e.now) all)
 both_listed schema all front back first second parts one two =
     let now : Bor Entry → Entry = λ e. e.now in
-    flat_map-append (λ (l : Vec Touch). l.items) first second
+    flat_map-append (λ (l : Vec MarkTouch). l.items) first second
     ∙ (λ i. one i ++ two i)
     ∙ sym (flat_map-append (touches_of schema) (map now front) (map now back))
     ∙ ap (touches_of_all schema) (sym (map-append now front back) ∙ ap (map now) (sym parts))

@@ -1,12 +1,12 @@
 -- The GTIDs of several journals together.
 use Rattle.std.proofs.Common.{◌≡◌, Bool, true, false, ◌||◌, List, [], ◌∷◌, refl, sym, ap, ◌∙◌}
 use Rattle.std.specs.FinSet as set
-use Rattle.gtid_text.proofs.SameGtid.{gtid_total}
+use Rattle.lemmas.proofs.SameGtid.{gtid_total}
 use Rattle.gtid_set.specs.Sets.{Gtids}
 use Rattle.gtid_set.proofs.LawLemmas.{union_swap, union_group}
 use Rattle.gtid_set.proofs.SetLemmas.{same_members}
 use Rattle.journal.specs.Journals.{JournalValue, whole}
-use Rattle.ordered_replicas.specs.Deciding.{all_of}
+use Rattle.convergence.specs.Deciding.{all_of}
 
 -- a set that is joined first
 pub all_more : (s a : Gtids) (js : List JournalValue) → all_of (set.union s a) js ≡ set.union a (all_of s js)

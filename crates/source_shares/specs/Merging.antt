@@ -6,8 +6,8 @@ use Rattle.rows.specs.Apply.{Rows}
 use Rattle.rows.specs.Database.{Database}
 use Rattle.rows.specs.Parts.{AreParts}
 use Rattle.journal.specs.Journals.{JournalValue}
-use Rattle.ordered_replicas.specs.Deciding.{all_of}
-use Rattle.source_history.specs.World.{rows_of}
+use Rattle.convergence.specs.Deciding.{all_of}
+use Rattle.history.specs.Sources.{rows_of}
 use Rattle.world.specs.declared.verdict.Verdict.TheVariants.{Sound}
 use Rattle.world.specs.Audit.{verdict, world_of}
 

@@ -3,8 +3,8 @@ use Rattle.std.specs.Prelude.{◌≡◌, ◌==◌, ◌<◌, ℕ, Bool, List, [],
 use Rattle.std.specs.List.{filter, AllByRecursion}
 use Rattle.journal.specs.declared.Entry.{Entry}
 use Rattle.rows.specs.Database.{Database}
-use Rattle.source_history.specs.World.{apply_all}
-use Rattle.source_history.specs.World as history
+use Rattle.history.specs.Sources.{apply_all}
+use Rattle.history.specs.Sources as history
 use Rattle.audit.specs.Contents.{as_pair}
 
 -- the share of a source: that of the first pair that names it, or else the first

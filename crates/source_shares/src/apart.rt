@@ -1,4 +1,4 @@
-//! Whether sources share a key, looked for by several threads.
+//! Whether sources share a key: a search by several threads.
 ghost use Rattle.std.specs.Prelude.{◌≡◌, ◌<◌, IfOk, None, map, true};
 ghost use Rattle.std.specs.FinMap as finmap;
 ghost use Rattle.std.specs.Thread.{IsSync};
@@ -7,23 +7,23 @@ ghost use Rattle.audit.specs.Contents.{as_pair};
 ghost use Rattle.audit.specs.Owned.{AreOwn, touches_in_lists, touches_of_all};
 ghost use Rattle.source_shares.specs.Apart.{AreAllFound};
 
-use audit::{PARTS, Touch, are_own, parts_are_apart, share_no_key, touches_in};
+use audit::{MarkTouch, PARTS, are_own, parts_are_apart, share_no_key, touches_in};
 use journal::Entry;
 use rows::Schema;
 use std::alloc::{AllocError, Global};
 use std::thread;
 use std::thread::{Threads, join};
 
-/// Fewer entries are looked at by one thread.
+/// Fewer entries are examined by one thread.
 const LEAST_ENTRIES: usize = 4_096;
 
-/// Entries with more changes on average are looked at by one thread: lists of all that they touch would take memory like the bundle.
+/// Entries with more changes on average are examined by one thread: lists of all that they touch would take as much memory as the bundle.
 const MOST_CHANGES: usize = 4;
 
-/// So many entries are looked at for that average.
+/// How many entries are sampled for that average.
 const SAMPLE: usize = 1_024;
 
-/// So often the entries are halved: four threads list what they touch.
+/// How often the entries are halved: four threads list what they touch.
 const HALVINGS: u8 = 2;
 
 /// What entries touch, in one list.
@@ -31,7 +31,7 @@ fn list_touches(
     alloc: Global,
     schema: &Schema,
     entries: &[&Entry],
-) -> Result<Vec<Vec<Touch>>, AllocError>
+) -> Result<Vec<Vec<MarkTouch>>, AllocError>
     ensures { IfOk result (λ lists. touches_in_lists lists.items ≡ touches_of_all schema.now (map (λ e. e.now) entries.now)) }
 {
     let list = touches_in(alloc, schema, entries)?;
@@ -40,29 +40,28 @@ fn list_touches(
     Ok(lists)
 }
 
-/// What entries touch: halves of halves, so often halved, are listed by threads of their own where they can be started.
+/// What entries touch. The entries are split in two `halvings` times; each half is listed on a thread of its own if one can be started.
 fn list_beside<R: Threads + Sync>(
     rt: &R,
     alloc: Global,
     schema: &Schema,
     entries: &[&Entry],
     halvings: u8,
-) -> Result<Vec<Vec<Touch>>, AllocError>
+) -> Result<Vec<Vec<MarkTouch>>, AllocError>
     ensures { IfOk result (λ lists. touches_in_lists lists.items ≡ touches_of_all schema.now (map (λ e. e.now) entries.now)) }
 {
     if halvings == 0 {
-        let lists = list_touches(alloc, schema, entries)?;
-        return Ok(lists);
+        return list_touches(alloc, schema, entries);
     }
     let left = halvings - 1;
     let (front, back) = entries.split_at(entries.len() / 2);
     let (first, second) = join(
         rt,
-        || -> Result<Vec<Vec<Touch>>, AllocError>
+        || -> Result<Vec<Vec<MarkTouch>>, AllocError>
             requires { IsSync R.row }
             ensures { IfOk result (λ lists. touches_in_lists lists.items ≡ touches_of_all schema.entry.now (map (λ e. e.now) front.entry.now)) }
         { list_beside(rt, alloc, schema, front, left) },
-        || -> Result<Vec<Vec<Touch>>, AllocError>
+        || -> Result<Vec<Vec<MarkTouch>>, AllocError>
             requires { IsSync R.row }
             ensures { IfOk result (λ lists. touches_in_lists lists.items ≡ touches_of_all schema.entry.now (map (λ e. e.now) back.entry.now)) }
         { list_beside(rt, alloc, schema, back, left) },
@@ -85,11 +84,11 @@ fn are_all_found(found: &[Result<bool, AllocError>]) -> bool
     true
 }
 
-/// Whether in each part of the marks no mark has two sources: each part is looked at by a thread of its own where one can be started.
+/// Whether in each part of the marks no mark has two sources: each part is examined on a thread of its own if one can be started.
 fn are_parts_own<R: Threads + Sync>(
     rt: &R,
     alloc: Global,
-    lists: &[Vec<Touch>],
+    lists: &[Vec<MarkTouch>],
 ) -> Result<bool, AllocError>
     ensures { IfOk result (λ yes. yes ≡ true → (part : _) → part < 4 → AreOwn part (touches_in_lists lists.now)) }
 {
@@ -115,7 +114,7 @@ fn are_narrow(entries: &[&Entry]) -> bool {
     changes / MOST_CHANGES <= sample.len()
 }
 
-/// What `share_no_key` finds, by several threads where there are many entries of few changes: where it is true, no two sources touch a key.
+/// What `share_no_key` finds, by several threads if there are many entries of few changes: if true, no two sources touch a key.
 pub(crate) fn share_no_key_beside<R: Threads + Sync>(
     rt: &R,
     alloc: Global,
@@ -125,11 +124,9 @@ pub(crate) fn share_no_key_beside<R: Threads + Sync>(
     ensures { IfOk result (λ yes. yes ≡ true → shared_from schema.now finmap.empty (map as_pair (map (λ e. e.now) entries.now)) ≡ None) }
 {
     if entries.len() < LEAST_ENTRIES || !are_narrow(entries) {
-        let yes = share_no_key(alloc, schema, entries)?;
-        return Ok(yes);
+        return share_no_key(alloc, schema, entries);
     }
     parts_are_apart();
     let lists = list_beside(rt, alloc, schema, entries, HALVINGS)?;
-    let yes = are_parts_own(rt, alloc, &lists)?;
-    Ok(yes)
+    are_parts_own(rt, alloc, &lists)
 }

@@ -1,6 +1,6 @@
 //! One share of the sources, applied.
 ghost use Rattle.std.specs.Prelude.{◌≡◌, Ok, map, true};
-ghost use Rattle.source_history.specs.World.{apply_all};
+ghost use Rattle.history.specs.Sources.{apply_all};
 ghost use Rattle.audit.specs.Worlds.{AllFit};
 ghost use Rattle.source_shares.specs.Shares.{IsApplied, is_in_share, of_share};
 
@@ -12,13 +12,18 @@ use std::alloc::Global;
 
 /// A source, and whether it is in the share.
 #[derive(Clone, Copy)]
-struct Turn {
+struct SourceTurn {
     source: SourceId,
     own: bool,
 }
 
-/// From the source of an entry to that of the next.
-fn turn_to(turn: Turn, shares: &[(SourceId, usize)], share: usize, source: SourceId) -> Turn
+/// Turns from the source of an entry to that of the next.
+fn turn_to(
+    turn: SourceTurn,
+    shares: &[(SourceId, usize)],
+    share: usize,
+    source: SourceId,
+) -> SourceTurn
     requires { turn.own ≡ is_in_share shares.now share turn.source }
     ensures source { result.source ≡ source }
     ensures own { result.own ≡ is_in_share shares.now share source }
@@ -26,13 +31,13 @@ fn turn_to(turn: Turn, shares: &[(SourceId, usize)], share: usize, source: Sourc
     if turn.source == source {
         return turn;
     }
-    Turn {
+    SourceTurn {
         source,
         own: share_of(shares, source) == share,
     }
 }
 
-/// Applies those entries that are of a share, one after another; whether all of them apply. Nothing is said where memory is refused.
+/// Applies the entries of one share in order; true if all of them applied. False tells nothing: out of memory gives it too.
 fn apply_each(
     alloc: Global,
     rows: &mut Rows,
@@ -45,7 +50,7 @@ fn apply_each(
     ensures applied { result ≡ true → apply_all rows.old.schema (of_share shares.now share (map (λ e. e.now) entries.now)) rows.old.rows ≡ Ok rows.new.rows }
 {
     let first = SourceId::from_bits(0);
-    let mut turn = Turn {
+    let mut turn = SourceTurn {
         source: first,
         own: share_of(shares, first) == share,
     };
@@ -62,7 +67,7 @@ fn apply_each(
     true
 }
 
-/// The rows after the entries of a share, from the opening rows, where all of them apply.
+/// The rows after the entries of a share, from the opening rows, if all of them apply.
 pub(crate) fn apply_share(
     alloc: Global,
     opening: &Rows,

@@ -2,13 +2,13 @@
 ghost use Rattle.std.specs.Prelude.{◌≡◌, IfSome, true};
 ghost use Rattle.std.specs.FinSet as set;
 ghost use Rattle.journal.specs.Journals.{gtids_of, whole};
-ghost use Rattle.ordered_replicas.specs.Deciding.{all_of};
+ghost use Rattle.convergence.specs.Deciding.{all_of};
 
 use gtid_set::GtidSet;
 use journal::{Entry, Journal};
 use std::alloc::Global;
 
-/// Puts the GTIDs of entries into a set, unless a call fails.
+/// Adds the GTIDs of entries to a set, unless a call fails.
 fn add_gtids(known: &mut GtidSet, entries: &[Entry]) -> bool
     ensures { result ≡ true → known.new ≡ set.union known.old (gtids_of entries.now) }
 {
@@ -21,7 +21,7 @@ fn add_gtids(known: &mut GtidSet, entries: &[Entry]) -> bool
     true
 }
 
-/// Puts all that a journal has a record of into a set that has its previous set, unless it hasn't or a call fails.
+/// Adds all GTIDs that a journal has a record of to a set; false if the set lacks the journal's previous set or a call fails.
 fn add_journal(known: &mut GtidSet, journal: &Journal) -> bool
     ensures { result ≡ true → known.new ≡ set.union known.old (whole journal.now) }
 {

@@ -4,7 +4,7 @@ ghost use Rattle.std.specs.Prelude.{◌≡◌, IfSome, Some, map};
 use rows::Rows;
 use std::alloc::Global;
 
-/// The rows of each share, unless one of them has none or memory is refused.
+/// The rows of each share, unless one of them has none or out of memory.
 pub(crate) fn all_parts(alloc: Global, found: Vec<Option<Rows>>) -> Option<Vec<Rows>>
     ensures { IfSome result (λ parts. map Some parts.items ≡ found.items) }
 {

@@ -7,7 +7,7 @@ ghost use Rattle.world.specs.Folds.{shared_from};
 ghost use Rattle.audit.specs.Contents.{as_pair, in_order};
 ghost use Rattle.audit.specs.Firsts.{AreFirsts, AreFirstsIf, BeginInOrder};
 ghost use Rattle.audit.specs.Worlds.{AllFit};
-ghost use Rattle.ordered_replicas.specs.Deciding.{all_of};
+ghost use Rattle.convergence.specs.Deciding.{all_of};
 ghost use Rattle.source_shares.specs.Merging.{AreMerged};
 ghost use Rattle.source_shares.specs.Shares.{AreApplied, IsApplied};
 
@@ -25,14 +25,14 @@ use std::alloc::{AllocError, Global};
 use std::thread;
 use std::thread::{Threads, join_mut};
 
-/// What journals together result in: the executed set, and parts of the rows.
+/// The result of all journals together: the executed set, and parts of the rows.
 #[derive(Drop)]
 pub struct Merged {
     pub executed: GtidSet,
     pub parts: Vec<Rows>,
 }
 
-/// The rows of each share, applied on a thread of its own where one can be started.
+/// The rows of each share, which is applied on a thread of its own if one can be started.
 fn apply_shares<R: Threads + Sync>(
     rt: &R,
     alloc: Global,
@@ -56,7 +56,7 @@ fn apply_shares<R: Threads + Sync>(
     )
 }
 
-/// The rows of each share, where no two sources touch a key: both are found at the same time.
+/// The rows of each share, if no two sources touch a key: threads find both at the same time.
 fn apply_apart<R: Threads + Sync>(
     rt: &R,
     alloc: Global,
@@ -89,7 +89,7 @@ fn apply_apart<R: Threads + Sync>(
     }
 }
 
-/// Whether there is so much to apply that copies of the opening rows pay. (A guess.)
+/// Whether there is enough to apply that copies of the opening rows pay. (A guess.)
 fn is_worth_copies(rows: &Rows, counts: &[(SourceId, usize)]) -> bool {
     let mut changes: usize = 0;
     for it in counts {
@@ -98,8 +98,8 @@ fn is_worth_copies(rows: &Rows, counts: &[(SourceId, usize)]) -> bool {
     changes / 4 >= rows.count_keys()
 }
 
-/// Whether journals agree with one another and begin in order, which is found at the same time. Where they do, the first entry of each GTID
-/// beyond the opening set is put into a list that is empty.
+/// Whether journals agree with one another and begin in order: threads find both at the same time. If they do, the first entry of each GTID
+/// beyond the opening set is put into a list that is empty at first.
 fn list_firsts<'a, R: Threads + Sync>(
     rt: &R,
     alloc: Global,
@@ -123,7 +123,7 @@ fn list_firsts<'a, R: Threads + Sync>(
     matches!(ordered, Ok(true)) && matches!(listed, Ok(true))
 }
 
-/// The executed set of all journals, and the rows of each share, where no two sources touch a key: both are found at the same time.
+/// The executed set of all journals, and the rows of each share, if no two sources touch a key: threads find both at the same time.
 fn apply_beside<R: Threads + Sync>(
     rt: &R,
     alloc: Global,
@@ -149,7 +149,7 @@ fn apply_beside<R: Threads + Sync>(
     )
 }
 
-/// What `merge_by_shares` gives, where a pass over the journals lists what they bring: the list is empty at first.
+/// What `merge_by_shares` gives, if a pass over the journals lists what they bring: the list is empty at first.
 fn merge_listed<'a, R: Threads + Sync>(
     rt: &R,
     alloc: Global,
@@ -185,8 +185,9 @@ fn merge_listed<'a, R: Threads + Sync>(
     Some(Merged { executed, parts })
 }
 
-/// What journals together result in, where the audit of them is Sound and one pass over them shows that their keys are: the executed set
-/// of all of them, and the parts of its rows that shares of the sources have. So many threads at most apply them. The schema takes each transaction beyond the opening set.
+/// The result of all journals together, if the audit of them is Sound and one pass over them shows that their keys are: the executed set of
+/// all of them, and the parts of its rows that shares of the sources have. At most `most` threads apply them. The schema takes each
+/// transaction beyond the opening set.
 pub fn merge_by_shares<R: Threads + Sync>(
     rt: &R,
     alloc: Global,

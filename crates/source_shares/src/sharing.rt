@@ -20,7 +20,7 @@ pub(crate) fn share_of(shares: &[(SourceId, usize)], source: SourceId) -> usize
     }
 }
 
-/// So many entries of a source are looked at for how many changes they have.
+/// How many entries of a source are sampled for how many changes they have.
 const SAMPLE: usize = 64;
 
 /// About how many changes entries have, by the first of them.
@@ -33,7 +33,7 @@ fn usual_changes(entries: &[&Entry]) -> usize {
     (changes / sample.len().max(1)).saturating_mul(entries.len())
 }
 
-/// The place behind the entries of the source of the one at a place, where sources are ascending.
+/// The place after the last entry of the source that the entry at a place has; sources are ascending.
 fn place_behind(entries: &[&Entry], place: usize) -> usize
     requires { place < length entries.now }
     ensures behind { place < result }
@@ -44,7 +44,7 @@ fn place_behind(entries: &[&Entry], place: usize) -> usize
     behind.clamp(place + 1, entries.len())
 }
 
-/// About how many changes each source has, where sources are ascending. (A guess.)
+/// About how many changes each source has; sources are ascending. (A guess.)
 pub(crate) fn count_changes(
     alloc: Global,
     entries: &[&Entry],
@@ -74,7 +74,7 @@ fn least_place(loads: &[usize]) -> usize
     least
 }
 
-/// Puts so many changes into the share that has the fewest.
+/// Adds a source with `changes` changes to the share that has the fewest; returns that share.
 fn load(loads: &mut [usize], changes: usize) -> usize
     requires { 0 < length loads.old }
     ensures same { length loads.new ≡ length loads.old }
@@ -85,8 +85,8 @@ fn load(loads: &mut [usize], changes: usize) -> usize
     share
 }
 
-/// Puts each source, with its number of changes, into one of so many shares. Those with the most changes come first, each into the
-/// share that has the fewest.
+/// Puts each source, with its number of changes, into one of the shares. Those with the most changes come first, each into the share that
+/// has the fewest.
 pub(crate) fn put_into_shares(
     alloc: Global,
     counts: &mut Vec<(SourceId, usize)>,

@@ -34,7 +34,7 @@ use Rattle.txn_journal.specs.declared.bundle_draft.Part.TheVariants as parts
 use Rattle.txn_journal.specs.declared.bundle_draft.Word.TheVariants as words
 use Rattle.txn_journal.specs.declared.fault.Cause.{Cause}
 use Rattle.txn_journal.specs.declared.fault.Cause.TheVariants as causes
-use Rattle.txn_journal.specs.declared.lines.Place.TheVariants as places
+use Rattle.txn_journal.specs.declared.lines.LinePlace.TheVariants as places
 use Rattle.txn_journal.specs.declared.lines.Version.TheVariants.{One, Two}
 use Rattle.std.proofs.lemmas.Simd.{map-map}
 use Rattle.txn_journal.proofs.Judged.{bind_ok, done, ok_is}
@@ -42,7 +42,7 @@ use Rattle.txn_journal.proofs.FormatLaws.{reads_back, runs, Leads, leads_none, l
 use Rattle.txn_journal.proofs.SoundLines.{placed, Sound_at, IsSound, Taken, judged_line, stamps_more}
 use Rattle.txn_journal.proofs.GtidLaws.{none_written}
 use Rattle.gtid_text.specs.Written.{IsSource}
-use Rattle.txn_journal.specs.declared.lines.Place.{Place}
+use Rattle.txn_journal.specs.declared.lines.LinePlace.{LinePlace}
 use Rattle.row_images.specs.Words.{first_word}
 use Rattle.txn_journal.proofs.JournalLaws.{at, AreRight, goes_front, closes_journal, last_entries, last_stamps, some_version, completes_at}
 use Rattle.txn_journal.proofs.ShapeLaws.{allowed, shape_fits, with_again}
@@ -127,7 +127,7 @@ module _ (whole : Bool) (due : Option Version) (version : Version) (is_due_versi
   unfolding judge_inner
   inner_step s d e line part h = ap (λ (p : Part). judge_part p whole (inside s d) line) part ∙ ap (λ (r : Result Standing Cause). r >>= unless_misstamped whole (inside s d)) h
 
-  not_within : (place : Place) → is_within place ≡ true → place ≡ places.Within
+  not_within : (place : LinePlace) → is_within place ≡ true → place ≡ places.Within
   not_within places.Within e = refl
   not_within place e = absurd cc
 
@@ -438,14 +438,14 @@ no_rows_written : (version : Version) → IsWrittenBundle version [] (bare 0 set
 no_rows_written version = tables_written version 0 set.empty [] (omega arith) (empty_opening version) tt
 
 -- the numbers of the entries that have come, where none is open
-right_at : (version : Version) (tables : List Table) (place : Place) (d : Standing) → is_within place ≡ false → d.stamps ≡ right_stamps version tables d.journal.entries → last_stamps place d ≡ right_stamps version tables (last_entries place d)
+right_at : (version : Version) (tables : List Table) (place : LinePlace) (d : Standing) → is_within place ≡ false → d.stamps ≡ right_stamps version tables d.journal.entries → last_stamps place d ≡ right_stamps version tables (last_entries place d)
 right_at version tables places.Header d out e = sym (none_right version tables)
 right_at version tables places.Previous d out e = sym (none_right version tables)
 right_at version tables places.Within d out e = absurd cc
 right_at version tables place d out e = e
 
 -- and where one is
-last_at : (version : Version) (tables : List Table) (place : Place) (d : Standing) → is_within place ≡ true → Sound_at (Some tables) place d → d.due ≡ Some version → d.stamps ≡ right_stamps version tables d.journal.entries → IsLastStamped version tables (last_stamps place d) (last_entries place d)
+last_at : (version : Version) (tables : List Table) (place : LinePlace) (d : Standing) → is_within place ≡ true → Sound_at (Some tables) place d → d.due ≡ Some version → d.stamps ≡ right_stamps version tables d.journal.entries → IsLastStamped version tables (last_stamps place d) (last_entries place d)
 last_at version tables places.Within d within h due e =
     let is : d.version ≡ version = version_is version d.version (subst (λ (x : Option Version). takes x d.version ≡ true) due h.whole.due) in
     record {

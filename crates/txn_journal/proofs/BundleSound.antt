@@ -37,14 +37,14 @@ use Rattle.txn_journal.specs.declared.fault.Cause.{Cause}
 use Rattle.txn_journal.specs.declared.fault.Cause.TheVariants as causes
 use Rattle.txn_journal.specs.declared.lines.Version.{Version}
 use Rattle.txn_journal.specs.declared.lines.Version.TheVariants.{One, Two}
-use Rattle.txn_journal.specs.declared.lines.Place.{Place}
-use Rattle.txn_journal.specs.declared.lines.Place.TheVariants as places
+use Rattle.txn_journal.specs.declared.lines.LinePlace.{LinePlace}
+use Rattle.txn_journal.specs.declared.lines.LinePlace.TheVariants as places
 use Rattle.txn_journal.proofs.SoundLines.{IsSound, EntriesGo, SameEntries, judged_line}
 use Rattle.txn_journal.proofs.ShapeLaws.{TableErr, with_both}
 use Rattle.txn_journal.proofs.OneBundle.{put_both}
 use Rattle.txn_journal.proofs.OwnReads.{own_body, own_put, own_reads, own_laws}
-use Rattle.rows.proofs.Lists.{all_append}
 use Rattle.std.proofs.lemmas.Result.{MatchResult-weaker}
+use Rattle.lemmas.proofs.Lists.{all_append}
 use Rattle.txn_journal.specs.Wordings.{ParsesAsLine, HasCauseBy}
 use Rattle.txn_journal.specs.Causes.{word_for}
 use Rattle.txn_journal.proofs.Judged.{then_both, if_both, known_both, IsSchema, bind_ok, ok_is}
@@ -375,7 +375,7 @@ open_still due version tables rows b c old d l w o says sound same stamped more 
 -- ---- the last_committed of an entry that ends
 
 -- the entry that ends has the number that it has to have, or the line is the one that ends it
-within_is : (place : Place) → is_within place ≡ true → place ≡ places.Within
+within_is : (place : LinePlace) → is_within place ≡ true → place ≡ places.Within
 within_is places.Within e = refl
 within_is place e = absurd cc
 
@@ -383,10 +383,10 @@ within_is place e = absurd cc
 pub ends_entry : (s d : Standing) (l : Line) → is_due s.place (word_for l) ≡ true → EntriesGo l s d → is_within s.place ≡ true → is_within d.place ≡ false → l ≡ End
 ends_entry s d End due goes within out = refl
 ends_entry s d (Makes c) due goes within out = absurd (let k = sym (ap is_within goes.1 ∙ within) ∙ out in cc)
-ends_entry s d (Header v) due goes within out = absurd (let p = within_is s.place within in let k = ap (λ (x : Place). is_due x (word_for (Header v))) (sym p) ∙ due in cc)
-ends_entry s d (Previous g) due goes within out = absurd (let p = within_is s.place within in let k = ap (λ (x : Place). is_due x (word_for (Previous g))) (sym p) ∙ due in cc)
-ends_entry s d (Begin g n) due goes within out = absurd (let p = within_is s.place within in let k = ap (λ (x : Place). is_due x (word_for (Begin g n))) (sym p) ∙ due in cc)
-ends_entry s d Close due goes within out = absurd (let p = within_is s.place within in let k = ap (λ (x : Place). is_due x (word_for Close)) (sym p) ∙ due in cc)
+ends_entry s d (Header v) due goes within out = absurd (let p = within_is s.place within in let k = ap (λ (x : LinePlace). is_due x (word_for (Header v))) (sym p) ∙ due in cc)
+ends_entry s d (Previous g) due goes within out = absurd (let p = within_is s.place within in let k = ap (λ (x : LinePlace). is_due x (word_for (Previous g))) (sym p) ∙ due in cc)
+ends_entry s d (Begin g n) due goes within out = absurd (let p = within_is s.place within in let k = ap (λ (x : LinePlace). is_due x (word_for (Begin g n))) (sym p) ∙ due in cc)
+ends_entry s d Close due goes within out = absurd (let p = within_is s.place within in let k = ap (λ (x : LinePlace). is_due x (word_for Close)) (sym p) ∙ due in cc)
 
 right_more : (version : Version) (tables : List Table) (es : List Entry) (e : Entry) → right_stamps version tables (es ++ e ∷ []) ≡ right_stamps version tables es ++ right_stamp version tables es e ∷ []
 right_more One tables es e = map_push (λ x. 0) es e
@@ -409,7 +409,7 @@ stamped_still version tables s d (Header v) goes e right = same_stamps version t
 stamped_still version tables s d (Begin g n) goes e right = same_stamps version tables s d goes e
 stamped_still version tables s d Close goes e right = same_stamps version tables s d goes e
 
-ends_within : (place : Place) → is_due place (word_for End) ≡ true → place ≡ places.Within
+ends_within : (place : LinePlace) → is_due place (word_for End) ≡ true → place ≡ places.Within
 ends_within place e = grind arith
 
 -- an entry that ends and is not misstamped has the number that it has to have

@@ -25,8 +25,8 @@ use Rattle.txn_journal.specs.declared.fault.LineFault.{LineFault}
 use Rattle.txn_journal.specs.declared.fault.LineFault.TheVariants as wrong
 use Rattle.txn_journal.specs.declared.lines.Keyword.{Keyword}
 use Rattle.txn_journal.specs.declared.lines.Keyword.TheVariants as keywords
-use Rattle.txn_journal.specs.declared.lines.Place.{Place}
-use Rattle.txn_journal.specs.declared.lines.Place.TheVariants as places
+use Rattle.txn_journal.specs.declared.lines.LinePlace.{LinePlace}
+use Rattle.txn_journal.specs.declared.lines.LinePlace.TheVariants as places
 use Rattle.txn_journal.proofs.Judged.{if_both, two_steps, bind_ok, done}
 
 -- ---- in a journal
@@ -44,7 +44,7 @@ unfolding judge change_in
 judge_adds schema s line c e within =
     let word = keyword_of (first_word line) in
     let a = bind_ok (due (is_due places.Within) word) (λ w. change_at w (others line)) c e in
-    ap (λ (p : Place). due (is_due p) word >>= λ w. step schema s w (others line)) within
+    ap (λ (p : LinePlace). due (is_due p) word >>= λ w. step schema s w (others line)) within
     ∙ ap (λ (r : Result Keyword Cause). r >>= λ w. step schema s w (others line)) a.1
     ∙ step_adds schema s a.0 (others line) c a.2
 
@@ -62,7 +62,7 @@ added_stays schema s c =
 abbrev with_draft : BundleStanding → Standing → Result BundleStanding Cause
 with_draft s d = done (record s { draft = d })
 
-within_is : (place : Place) → is_within place ≡ true → place ≡ places.Within
+within_is : (place : LinePlace) → is_within place ≡ true → place ≡ places.Within
 within_is places.Within e = refl
 within_is place e = absurd cc
 

@@ -18,7 +18,7 @@ use Rattle.txn_journal.specs.declared.bundle_draft.Word.{Word}
 use Rattle.txn_journal.specs.declared.bundle_draft.Word.TheVariants as words
 use Rattle.txn_journal.specs.BundleStates.{BundleStanding, BundleValue, bare, is_due_in, opening_line, IsFullBundle, with_journal, after_inner, unless_misstamped, end_entry, judge_inner}
 use Rattle.txn_journal.specs.declared.bundle.BundleChannel.{BundleChannel}
-use Rattle.txn_journal.specs.declared.lines.Place.TheVariants as places
+use Rattle.txn_journal.specs.declared.lines.LinePlace.TheVariants as places
 use Rattle.txn_journal.specs.declared.fault.Cause.{Cause}
 use Rattle.txn_journal.specs.declared.fault.Cause.TheVariants as causes
 use Rattle.txn_journal.specs.declared.lines.Version.{Version}

@@ -20,8 +20,8 @@ use Rattle.txn_journal.specs.TakenEntries.{judge_all, Makes, TakesText, MayFollo
 use Rattle.txn_journal.specs.declared.bundle_draft.Part.{Part}
 use Rattle.txn_journal.specs.declared.bundle_draft.Part.TheVariants as parts
 use Rattle.txn_journal.specs.declared.fault.Cause.{Cause}
-use Rattle.txn_journal.specs.declared.lines.Place.{Place}
-use Rattle.txn_journal.specs.declared.lines.Place.TheVariants as places
+use Rattle.txn_journal.specs.declared.lines.LinePlace.{LinePlace}
+use Rattle.txn_journal.specs.declared.lines.LinePlace.TheVariants as places
 use Rattle.txn_journal.specs.declared.lines.Version.TheVariants.{One}
 use Rattle.txn_journal.proofs.Judged.{bind_ok, done}
 use Rattle.txn_journal.proofs.ChangeSteps.{bundle_adds}
@@ -56,7 +56,7 @@ unfolding judge_bundle
 bundle_begins s cs word g part spelled h =
     let line = codes "txn " ++ word in
     ap (λ (p : Part). judge_part p true s line) part
-    ∙ plain_taken s s.bundle.start.schema (begun s.draft g) line (ap (λ (p : Place). is_within p && false) h.place) refl
+    ∙ plain_taken s s.bundle.start.schema (begun s.draft g) line (ap (λ (p : LinePlace). is_within p && false) h.place) refl
     (begins s.bundle.start.schema s.draft word g spelled h.place h.version h.number h.room h.unseen) refl
 
 -- ---- the changes
@@ -97,7 +97,7 @@ ends : (s : BundleStanding) → s.part ≡ parts.Journal → s.version ≡ One �
 unfolding judge_bundle
 ends s part one within zero =
     ap (λ (p : Part). judge_part p true s (codes "end")) part
-    ∙ ends_is s (codes "end") (ap (λ (p : Place). is_within p && true) within)
+    ∙ ends_is s (codes "end") (ap (λ (p : LinePlace). is_within p && true) within)
     ∙ plain_ended s (Ok true) (close_entry s.draft) one zero refl
 
 -- ---- all of them

@@ -11,8 +11,8 @@ use Rattle.std.specs.Prelude.{IfOk, IfErr, MatchResult}
 use Rattle.std.proofs.lemmas.List.{map-append, append-nil, length-append, flat_map_more}
 use Rattle.std.proofs.lemmas.List.Concat.{flat_map-append}
 use Rattle.std.proofs.lemmas.Bool.{eqb-true, and_parts}
+use Rattle.lemmas.proofs.Lists.{all_push, all_append}
 use Rattle.gtid_set.specs.declared.fault.SetFault.{SetFault}
-use Rattle.rows.proofs.Lists.{all_push, all_append}
 use Rattle.txn_journal.specs.Formats.{Format, ended_line_of, text_of, AreWhole, start_of, feed_bytes_by, IsFaultBy, closing_by, whole_by, MayWrite, BeginsBy, cap_line_number, RefusesBy, ParsesBy}
 use Rattle.txn_journal.specs.declared.fault.JournalFault.{JournalFault}
 use Rattle.txn_journal.specs.declared.fault.JournalFault.TheVariants as faults

@@ -19,8 +19,8 @@ use Rattle.txn_journal.specs.Stream.{GivesFull}
 use Rattle.txn_journal.specs.Machine.{Standing, IsFull, fits, add, begin_stamped, begin, header_line, txn_line, close_line, step, previous_line, join_entry}
 use Rattle.journal.specs.declared.Entry.{Entry}
 use Rattle.txn_journal.specs.declared.fault.Cause.{Cause}
-use Rattle.txn_journal.specs.declared.lines.Place.{Place}
-use Rattle.txn_journal.specs.declared.lines.Place.TheVariants as places
+use Rattle.txn_journal.specs.declared.lines.LinePlace.{LinePlace}
+use Rattle.txn_journal.specs.declared.lines.LinePlace.TheVariants as places
 use Rattle.txn_journal.specs.declared.lines.Keyword.{Keyword}
 use Rattle.txn_journal.specs.declared.lines.Keyword.TheVariants as keywords
 
@@ -75,21 +75,21 @@ never_begun s gtid stamp h =
         absurd (let e = last.0 in cc)
 
 -- a change is due within an entry alone
-due_ins : (p : Place) → is_due p keywords.Ins ≡ true → p ≡ places.Within
+due_ins : (p : LinePlace) → is_due p keywords.Ins ≡ true → p ≡ places.Within
 due_ins places.Header e = absurd cc
 due_ins places.Previous e = absurd cc
 due_ins places.Between e = absurd cc
 due_ins places.Within e = refl
 due_ins places.Ended e = absurd cc
 
-due_upd : (p : Place) → is_due p keywords.Upd ≡ true → p ≡ places.Within
+due_upd : (p : LinePlace) → is_due p keywords.Upd ≡ true → p ≡ places.Within
 due_upd places.Header e = absurd cc
 due_upd places.Previous e = absurd cc
 due_upd places.Between e = absurd cc
 due_upd places.Within e = refl
 due_upd places.Ended e = absurd cc
 
-due_del : (p : Place) → is_due p keywords.Del ≡ true → p ≡ places.Within
+due_del : (p : LinePlace) → is_due p keywords.Del ≡ true → p ≡ places.Within
 due_del places.Header e = absurd cc
 due_del places.Previous e = absurd cc
 due_del places.Between e = absurd cc

@@ -30,6 +30,8 @@ use Rattle.gtid_set.proofs.RoundTrip.{numbered, AreNumbered, member_numbered}
 use Rattle.std.specs.FinSet as set
 use Rattle.std.specs.Str.{bytes_eq}
 use Rattle.std.proofs.lemmas.Slice.Eq.{bytes_eq-Decides}
+use Rattle.lemmas.proofs.Options.{map_some}
+use Rattle.lemmas.proofs.Lists.{all_true_append as joins}
 use Rattle.gtid_text.specs.declared.Span.{Span}
 use Rattle.gtid_text.proofs.Found.{read_spells}
 use Rattle.gtid_text.proofs.Spelled.{spells_read}
@@ -42,7 +44,6 @@ use Rattle.gtid_set.proofs.RunLemmas.{runs_merged}
 use Rattle.row_images.specs.Values.{where_same}
 use Rattle.txn_journal.specs.WrittenSets.{spans_word, set_text, IsWrittenSet}
 use Rattle.row_images.proofs.Counts.{lacks}
-use Rattle.rows.proofs.Lists.{map_some}
 
 -- ---- a source is a number of 128 bits
 
@@ -118,10 +119,6 @@ source_set id = all_weaker is_uuid_byte is_set_byte (source_text id) uuid_set (s
 
 pub decimal_set : (n : ℕ) → n < 2 ^ 64 → list_all is_set_byte (decimal n) ≡ true
 decimal_set n lt = all_weaker is_ascii_digit is_set_byte (decimal n) digit_set (digits_decimal own n lt)
-
-pub joins : (p : ℕ → Bool) (xs ys : List ℕ) → list_all p xs ≡ true → list_all p ys ≡ true → list_all p (xs ++ ys) ≡ true
-joins p [] ys a b = b
-joins p (x ∷ xs) ys a b = let w = and_parts (p x) (list_all p xs) a in rw w.0 (joins p xs ys w.1 b)
 
 pub gtid_set_bytes : (g : Gtid) → IsUsable g → list_all is_set_byte (gtid_text g) ≡ true
 gtid_set_bytes g u = joins is_set_byte (source_text g.source) (58 ∷ decimal g.number) (source_set g.source) (decimal_set g.number (omega (arith, u.number.1)))

@@ -25,8 +25,8 @@ use Rattle.txn_journal.specs.declared.fault.Cause.{Cause}
 use Rattle.txn_journal.specs.declared.fault.Cause.TheVariants as causes
 use Rattle.txn_journal.specs.declared.fault.LineFault.{LineFault}
 use Rattle.txn_journal.specs.declared.fault.LineFault.TheVariants as wrong
-use Rattle.txn_journal.specs.declared.lines.Place.{Place}
-use Rattle.txn_journal.specs.declared.lines.Place.TheVariants as places
+use Rattle.txn_journal.specs.declared.lines.LinePlace.{LinePlace}
+use Rattle.txn_journal.specs.declared.lines.LinePlace.TheVariants as places
 use Rattle.txn_journal.specs.declared.lines.Version.{Version}
 use Rattle.gtid_set.specs.declared.fault.SetFault.{SetFault}
 use Rattle.gtid_set.specs.declared.fault.SetFault.TheVariants.{PoolFull, SourcesFull}
@@ -70,10 +70,10 @@ judged_makes schema s line =
     (λ l k. MatchResult-weaker (put schema s l) (put_makes schema s line l k) (λ t m. record { l = l; text = k.text; due = k.due; makes = m }) (λ c m. m)))
 
 -- the line that ends an entry, where one is open
-abbrev pub ends : Place → List ℕ → Bool
+abbrev pub ends : LinePlace → List ℕ → Bool
 ends place line = is_within place && bytes_eq line (codes "end")
 
-no_end : (place : Place) (line : List ℕ) → line ≡ line_text End → is_due place (word_for End) ≡ true → ends place line ≡ true
+no_end : (place : LinePlace) (line : List ℕ) → line ≡ line_text End → is_due place (word_for End) ≡ true → ends place line ≡ true
 no_end places.Within line text due = (bytes_eq-Decides line (codes "end")).1 text
 no_end place line text due = absurd cc
 
@@ -85,26 +85,26 @@ not_misstamped version tables s t line (Makes c) text due makes none true within
 not_misstamped version tables s t line End text due makes none true within = absurd (let k = sym (no_end s.place line text due) ∙ none in cc)
 not_misstamped version tables s t line (Header v) text due makes none true within = absurd (apart s.place within due)
   where
-    apart : (place : Place) → is_within place ≡ true → is_due place (word_for (Header v)) ≡ true → ⊥
+    apart : (place : LinePlace) → is_within place ≡ true → is_due place (word_for (Header v)) ≡ true → ⊥
     apart place a b = grind arith
 not_misstamped version tables s t line (Previous p) text due makes none true within = absurd (apart s.place within due)
   where
-    apart : (place : Place) → is_within place ≡ true → is_due place (word_for (Previous p)) ≡ true → ⊥
+    apart : (place : LinePlace) → is_within place ≡ true → is_due place (word_for (Previous p)) ≡ true → ⊥
     apart place a b = grind arith
 not_misstamped version tables s t line (Begin g n) text due makes none true within = absurd (apart s.place within due)
   where
-    apart : (place : Place) → is_within place ≡ true → is_due place (word_for (Begin g n)) ≡ true → ⊥
+    apart : (place : LinePlace) → is_within place ≡ true → is_due place (word_for (Begin g n)) ≡ true → ⊥
     apart place a b = grind arith
 not_misstamped version tables s t line Close text due makes none true within = absurd (apart s.place within due)
   where
-    apart : (place : Place) → is_within place ≡ true → is_due place (word_for Close) ≡ true → ⊥
+    apart : (place : LinePlace) → is_within place ≡ true → is_due place (word_for Close) ≡ true → ⊥
     apart place a b = grind arith
 
 same_of : (s t : Standing) (line : List ℕ) (l : Line) → line ≡ line_text l → is_due s.place (word_for l) ≡ true → Makes_of l s t → ends s.place line ≡ false → has_begun s.place ≡ true → t.journal.entries ≡ s.journal.entries
 same_of s t line (Header v) text due makes none begun = makes
 same_of s t line (Previous p) text due makes none begun = absurd (apart s.place begun due)
   where
-    apart : (place : Place) → has_begun place ≡ true → is_due place (word_for (Previous p)) ≡ true → ⊥
+    apart : (place : LinePlace) → has_begun place ≡ true → is_due place (word_for (Previous p)) ≡ true → ⊥
     apart place a b = grind arith
 same_of s t line (Begin g n) text due makes none begun = makes
 same_of s t line (Makes c) text due makes none begun = makes.entries
@@ -186,7 +186,7 @@ inner_failed s tables d line (wrong.Set f) new none same h =
 
 -- ---- the line that ends an entry
 
-within_is : (place : Place) → is_within place ≡ true → place ≡ places.Within
+within_is : (place : LinePlace) → is_within place ≡ true → place ≡ places.Within
 within_is places.Within e = refl
 within_is place e = absurd cc
 
@@ -201,7 +201,7 @@ unfolding judge_inner end_entry put
 ends_is s line e =
     let p = and_parts (is_within s.draft.place) (bytes_eq line (codes "end")) e in
     let text : line ≡ line_text End = (bytes_eq-Decides line (codes "end")).0 p.1 in
-    let due : is_due s.draft.place (word_for End) ≡ true = ap (λ (x : Place). is_due x (word_for End)) (within_is s.draft.place p.0) in
+    let due : is_due s.draft.place (word_for End) ≡ true = ap (λ (x : LinePlace). is_due x (word_for End)) (within_is s.draft.place p.0) in
     let schema = Some s.bundle.start.schema in
     let judged : judge schema s.draft line ≡ Ok (close_entry s.draft) = ap (judge schema s.draft) text ∙ spelled_judged schema s.draft (close_entry s.draft) End due (record { words = tt; images = tt; of_version = tt }) refl in
     ap (λ (r : Result Standing Cause). r >>= unless_misstamped true s) judged ∙ ended_by s (eqb s.draft.stamp (right_stamp s.version s.bundle.start.schema s.draft.journal.entries (open_entry s.draft))) p.0 refl

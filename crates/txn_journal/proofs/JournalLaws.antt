@@ -27,13 +27,13 @@ use Rattle.txn_journal.specs.Stream.{Judge}
 use Rattle.txn_journal.specs.Machine.{Standing, empty, is_last, is_within, fits, open_entry, close_entry, add, begin, judge}
 use Rattle.txn_journal.specs.Spelling.{Line, Header, Previous, Begin, Makes, End, Close, numbers_text, change_text, line_text, lines_text, numbers_of, entry_lines, entries_lines, front_lines, journal_lines, spelling_as, FitsChange, FitsEntry, IsWritten, IsStamp, AreStamps, WritesAs, Writes}
 use Rattle.row_images.specs.Images.{values_text, AreValues}
-use Rattle.txn_journal.specs.declared.lines.Place.TheVariants as places
+use Rattle.txn_journal.specs.declared.lines.LinePlace.TheVariants as places
 use Rattle.txn_journal.specs.declared.lines.Version.{Version}
 use Rattle.txn_journal.specs.declared.lines.Version.TheVariants.{One, Two}
 use Rattle.txn_journal.proofs.NameLemmas.{name_no_feed}
 use Rattle.txn_journal.proofs.SplitLaws.{joined_lacks, count_no_feed}
 use Rattle.row_images.proofs.ImageLaws.{texts_lack}
-use Rattle.txn_journal.proofs.GtidLaws.{gtid_set_bytes, is_set_byte, set_no_feed, joins, set_no_feeds, none_written}
+use Rattle.txn_journal.proofs.GtidLaws.{gtid_set_bytes, is_set_byte, set_no_feed, set_no_feeds, none_written}
 use Rattle.txn_journal.specs.Reading.{journals_as, journals, WrittenJournal, as_written, IsWrittenAs, written_journals}
 use Rattle.txn_journal.proofs.FormatLaws.{Leads, leads_none, leads_one, leads_both, Laws}
 use Rattle.txn_journal.specs.Causes.{word_for, AreCounts, HasNumbers, FitsLine, HasImages, FitsAt, wording}
@@ -41,8 +41,9 @@ use Rattle.txn_journal.proofs.LineReads.{body_of, put, judge_reads, rest_laws}
 use Rattle.txn_journal.proofs.WordLaws.{judged_again}
 use Rattle.txn_journal.proofs.SoundLines.{placed, fits_in, seen_after, Whole, Sound_at, IsSound, whole_more, ended_entry, whole_written, judged_line}
 use Rattle.std.proofs.lemmas.Result.{MatchResult-weaker}
+use Rattle.lemmas.proofs.Lists.{all_true_append as joins}
 use Rattle.txn_journal.specs.LinesSoFar.{lines_so_far}
-use Rattle.txn_journal.specs.declared.lines.Place.{Place}
+use Rattle.txn_journal.specs.declared.lines.LinePlace.{LinePlace}
 
 -- ---- no line feed is in a line
 
@@ -133,7 +134,7 @@ with_entry j e = record j { entries = j.entries ++ e ∷ [] }
 abbrev with_entries : JournalValue → List Entry → JournalValue
 with_entries j es = record j { entries = j.entries ++ es }
 
-abbrev pub at : Place → Option Version → Version → JournalValue → List ℕ → Gtids → ℕ → Gtid → ℕ → List Change → Standing
+abbrev pub at : LinePlace → Option Version → Version → JournalValue → List ℕ → Gtids → ℕ → Gtid → ℕ → List Change → Standing
 at place due version j stamps seen count g stamp cs = record { place = place; due = due; version = version; journal = j; stamps = stamps; seen = seen; count = count; gtid = g; stamp = stamp; changes = cs }
 
 -- the text of a line is read, and then it acts
@@ -281,20 +282,20 @@ pub no_entries_fit : IsWritten no_entries
 no_entries_fit = record { keeps = record { numbers = no_numbers; new = tt; writable = refl }; few = omega arith; previous = none_written; entries = tt }
 
 -- the entries after the lines so far, with the one that is open, and their numbers
-abbrev pub last_entries : Place → Standing → List Entry
+abbrev pub last_entries : LinePlace → Standing → List Entry
 last_entries places.Header s = []
 last_entries places.Previous s = []
 last_entries places.Within s = s.journal.entries ++ open_entry s ∷ []
 last_entries _ s = s.journal.entries
 
-abbrev pub last_stamps : Place → Standing → List ℕ
+abbrev pub last_stamps : LinePlace → Standing → List ℕ
 last_stamps places.Header s = []
 last_stamps places.Previous s = []
 last_stamps places.Within s = s.stamps ++ s.stamp ∷ []
 last_stamps _ s = s.stamps
 
 -- a journal that has begun can be brought to its end
-pub record Completes (schema : Option (List Table)) (due : Option Version) (place : Place) (s : Standing) : Type 0 where
+pub record Completes (schema : Option (List Table)) (due : Option Version) (place : LinePlace) (s : Standing) : Type 0 where
   pub version : Version
   pub journal : JournalValue
   pub more : List Line
@@ -310,7 +311,7 @@ some_version None = (One, refl)
 some_version (Some One) = (One, refl)
 some_version (Some Two) = (Two, refl)
 
-pub completes_at : (schema : Option (List Table)) (place : Place) (s : Standing) → Sound_at schema place s → Completes schema s.due place s
+pub completes_at : (schema : Option (List Table)) (place : LinePlace) (s : Standing) → Sound_at schema place s → Completes schema s.due place s
 completes_at schema places.Header s h =
     let v = some_version s.due in
     record { version = v.0; journal = no_entries; more = journal_lines v.0 [] no_entries; takes_version = v.1; entries = refl; fits = no_entries_fit; stamps_fit = tt; fitting = refl; whole = refl }
@@ -337,7 +338,7 @@ pub record Ended (schema : Option (List Table)) (s : Standing) : Type 0 where
   pub lines : lines_so_far s ≡ journal_lines s.version s.stamps s.journal
   pub written : IsWritten s.journal
 
-ended_at : (schema : Option (List Table)) (place : Place) (s : Standing) → Sound_at schema place s → is_last place ≡ true → (Whole schema s) × (lines_so_far (placed place s) ≡ journal_lines s.version s.stamps s.journal)
+ended_at : (schema : Option (List Table)) (place : LinePlace) (s : Standing) → Sound_at schema place s → is_last place ≡ true → (Whole schema s) × (lines_so_far (placed place s) ≡ journal_lines s.version s.stamps s.journal)
 ended_at schema places.Ended s h last = (h.0, refl)
 ended_at schema place s h last = absurd cc
 

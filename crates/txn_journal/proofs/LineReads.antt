@@ -24,7 +24,7 @@ use Rattle.txn_journal.specs.Spelling.{Line, Header, Previous, Begin, Makes, End
 use Rattle.row_images.specs.Images.{values_text}
 use Rattle.txn_journal.specs.Causes.{keyword_text, word_for, AreCounts, HasNumbers, FitsAt, wording}
 use Rattle.txn_journal.specs.declared.fault.Cause.{Cause}
-use Rattle.txn_journal.specs.declared.lines.Place.TheVariants as places
+use Rattle.txn_journal.specs.declared.lines.LinePlace.TheVariants as places
 use Rattle.txn_journal.specs.declared.lines.Keyword.{Keyword}
 use Rattle.txn_journal.specs.declared.lines.Keyword.TheVariants as keywords
 use Rattle.txn_journal.specs.declared.lines.Version.{Version}

@@ -1,5 +1,5 @@
 -- Rows put in listed order give the same rows.
-use Rattle.std.proofs.Common.{arith, ◌≡◌, ℕ, zero, suc, ◌+◌, ◌≤◌, ◌==◌, T, Bool, true, false, cond, ◌&&◌, ◌⊎◌, inl, inr, List, [], ◌∷◌, Option, Some, None, is_some, Result, Ok, Err, refl, sym, ap, subst, ◌∙◌, if◌then◌else◌}
+use Rattle.std.proofs.Common.{arith, ◌≡◌, ℕ, zero, suc, ◌+◌, ◌≤◌, ◌==◌, T, Bool, true, false, cond, ◌⊎◌, inl, inr, List, [], ◌∷◌, Option, Some, None, is_some, Result, Ok, Err, refl, sym, ap, subst, ◌∙◌, if◌then◌else◌}
 use Rattle.std.specs.List.{list_all, list_any, AllByRecursion}
 use Rattle.std.specs.FinMap.{find, get, empty, entries, entries_sorted, get-empty, get-entries}
 use Rattle.std.specs.FinMap.Entries.{below_all, is_sorted}
@@ -9,6 +9,8 @@ use Rattle.std.specs.declared.cmp.Ordering.TheVariants.{Less, Equal, Greater}
 use Rattle.std.proofs.lemmas.Bool.{or_cases, and_parts, and_from, or_left, or_right}
 use Rattle.std.proofs.lemmas.Bool.Decides.{nat_tests}
 use Rattle.std.proofs.lemmas.Option.{same_Some}
+use Rattle.lemmas.proofs.Options.{none_some}
+use Rattle.lemmas.proofs.Tests.{left_of, right_of}
 use Rattle.rows.specs.declared.change.Key.{Key}
 use Rattle.rows.specs.declared.change.TableRow.{TableRow}
 use Rattle.rows.specs.declared.schema.Table.{Table}
@@ -24,7 +26,6 @@ use Rattle.rows.specs.Order.{key_cmp, key_eq}
 use Rattle.rows.specs.Total.{key_eq_same, key_eq_self}
 use Rattle.rows.specs.WriteSet.{is_among}
 use Rattle.rows.proofs.Carriers.{carried_table, apply_keeps_carriers, primary_keys_decide, no_carriers}
-use Rattle.rows.proofs.Lists.{none_some}
 use Rattle.rows.proofs.Local.{get-with_row}
 use Rattle.journal.specs.Writing.{is_image_writable}
 use Rattle.gtid_text.proofs.Turns.{chosen}
@@ -70,14 +71,6 @@ one_primary (Some t) row p q y z i j = primary_is t row p y i ∙ sym (primary_i
 
 -- ---- entries in order
 
-first_of : (a b : Bool) → T (a && b) → T a
-first_of true b h = tt
-first_of false b h = h
-
-second_of : (a b : Bool) → T (a && b) → T b
-second_of true b h = h
-second_of false b h = absurd h
-
 passed : (o : Ordering) (row : List Value) (rest : Option (List Value)) → T (is_lt o) → cond (is_eq o) (Some row) rest ≡ rest
 passed Less row rest h = refl
 passed Equal row rest h = absurd h
@@ -85,14 +78,14 @@ passed Greater row rest h = absurd h
 
 not_below : (q : Key) (es : List (Key × List Value)) → T (below_all key_cmp q es) → find key_cmp q es ≡ None
 not_below q [] h = refl
-not_below q (e ∷ es) h = passed (key_cmp q e.0) e.1 (find key_cmp q es) (first_of _ _ h) ∙ not_below q es (second_of _ _ h)
+not_below q (e ∷ es) h = passed (key_cmp q e.0) e.1 (find key_cmp q es) (left_of _ _ h) ∙ not_below q es (right_of _ _ h)
 
 head : (e : Key × List Value) (es : List (Key × List Value)) → find key_cmp e.0 (e ∷ es) ≡ Some e.1
 head e es = ap (λ (v : Bool). cond v (Some e.1) (find key_cmp e.0 es)) (key_eq_self e.0)
 
 -- a key of a later entry is not the first entry's
 not_first : {P : Type 0} (e : Key × List Value) (es : List (Key × List Value)) (k : Key) (row : List Value) → T (is_sorted key_cmp (e ∷ es)) → find key_cmp k es ≡ Some row → k ≡ e.0 → P
-not_first e es k row s f same = none_some row (sym (not_below e.0 es (first_of _ _ s)) ∙ ap (λ (x : Key). find key_cmp x es) (sym same) ∙ f)
+not_first e es k row s f same = none_some row (sym (not_below e.0 es (left_of _ _ s)) ∙ ap (λ (x : Key). find key_cmp x es) (sym same) ∙ f)
 
 later : (e : Key × List Value) (es : List (Key × List Value)) (k : Key) (row : List Value) → T (is_sorted key_cmp (e ∷ es)) → find key_cmp k es ≡ Some row → find key_cmp k (e ∷ es) ≡ Some row
 later e es k row s f = elim (key_eq k e.0) as (λ v. key_eq k e.0 ≡ v → cond v (Some e.1) (find key_cmp k es) ≡ Some row) [
@@ -114,7 +107,7 @@ each_by P false r rs h more = more
 
 each : (P : TableRow → Type 0) (es : List (Key × List Value)) → T (is_sorted key_cmp es) → ((k : Key) (row : List Value) → find key_cmp k es ≡ Some row → P (row_at k row)) → AllByRecursion P (primary_rows es)
 each P [] s h = tt
-each P (e ∷ es) s h = each_by P (e.0.index == 0) (row_at e.0 e.1) (primary_rows es) (h e.0 e.1 (head e es)) (each P es (second_of _ _ s) (λ k row f. h k row (later e es k row s f)))
+each P (e ∷ es) s h = each_by P (e.0.index == 0) (row_at e.0 e.1) (primary_rows es) (h e.0 e.1 (head e es)) (each P es (right_of _ _ s) (λ k row f. h k row (later e es k row s f)))
 
 -- ---- lists of rows
 
@@ -216,7 +209,7 @@ next_free schema rows put e es w b z k i =
 -- an entry that is not under a primary key is passed over
 passed_over : (schema : List Table) (rows put : Rows) (e : Key × List Value) (es : List (Key × List Value)) → IsBegun schema rows put (e ∷ es) → IsBegun schema rows put es
 passed_over schema rows put e es b = record {
-  sorted = second_of _ _ b.sorted;
+  sorted = right_of _ _ b.sorted;
   among = λ k row f. b.among k row (later e es k row b.sorted f);
   inside = b.inside;
   carriers = b.carriers;
@@ -230,7 +223,7 @@ next_put schema rows put e es w b z free =
     let K = carried_keys schema e.0.table e.1 in
     let at : get rows e.0 ≡ Some e.1 = b.among e.0 e.1 (head e es) in
     record {
-      sorted = second_of _ _ b.sorted;
+      sorted = right_of _ _ b.sorted;
       among = λ k row f. b.among k row (later e es k row b.sorted f);
       inside = λ k row g. elim (chosen (is_among K k) (Some e.1) (get put k) (Some row) (sym (get-with_row K e.1 put k) ∙ g)) [
         | inl q ↦ w.carriers.everywhere e.0 k e.1 at q.0 ∙ q.1

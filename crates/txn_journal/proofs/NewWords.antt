@@ -12,6 +12,7 @@ use Rattle.std.proofs.Math.Seq.{drop-cons}
 use Rattle.std.proofs.lemmas.List.{take_rest}
 use Rattle.std.proofs.lemmas.Map.Text.{is_eq-slice_cmp}
 use Rattle.std.proofs.lemmas.Slice.Eq.{bytes_eq-Decides}
+use Rattle.lemmas.proofs.Tests.{or_twice}
 use Rattle.txn_journal.specs.Splits.{are_new_to, is_columns_text}
 use Rattle.txn_journal.specs.Shapes.{uniques_from}
 use Rattle.txn_journal.specs.declared.fault.Cause.{Cause}
@@ -33,9 +34,6 @@ by_bytes a b = slice_cmp nat_cmp a.now b.now
 pub found_seen : (keys : List Word) (w : Word) → list_any (λ k. is_eq (by_bytes w k)) keys ≡ seen_in keys w.now
 found_seen [] w = refl
 found_seen (k ∷ ks) w = rw (is_eq-slice_cmp w.now k.now, found_seen ks w) refl
-
-or_twice : (a r : Bool) → (a || r) ≡ (a || (a || r))
-or_twice a r = grind arith
 
 or_swap : (a b r : Bool) → (b || (a || r)) ≡ (a || (b || r))
 or_swap a b r = grind arith

@@ -29,9 +29,10 @@ use Rattle.txn_journal.specs.declared.bundle_draft.Word.{Word}
 use Rattle.txn_journal.specs.declared.lines.Version.{Version}
 use Rattle.txn_journal.specs.declared.lines.Version.TheVariants.{One, Two}
 use Rattle.std.specs.FinSet as set
+use Rattle.lemmas.proofs.Lists.{all_true_append as joins}
 use Rattle.txn_journal.specs.WrittenSets.{set_text}
 use Rattle.txn_journal.proofs.NameLemmas.{name_no_blank, name_no_feed}
-use Rattle.txn_journal.proofs.GtidLaws.{is_set_byte, set_ascii, set_no_feed, source_set, source_small, same_found, ascii_found, joins, set_again, set_no_feeds}
+use Rattle.txn_journal.proofs.GtidLaws.{is_set_byte, set_ascii, set_no_feed, source_set, source_small, same_found, ascii_found, set_again, set_no_feeds}
 use Rattle.txn_journal.proofs.JournalLaws.{values_one, table_one}
 use Rattle.journal.specs.Writing.{is_image_writable}
 use Rattle.txn_journal.specs.declared.fault.Cause.{Cause}

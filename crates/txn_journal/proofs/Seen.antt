@@ -10,7 +10,7 @@ use Rattle.journal.specs.Journals.{JournalValue, whole, gtids_of}
 use Rattle.journal.proofs.EntryLemmas.{gtids_of-push, contains-whole}
 use Rattle.txn_journal.specs.Kept.{IsSeen}
 use Rattle.std.proofs.lemmas.Bool.{or_parts}
-use Rattle.gtid_text.proofs.SameGtid.{gtid_total}
+use Rattle.lemmas.proofs.SameGtid.{gtid_total}
 
 abbrev pub of_set : Gtids → JournalValue
 of_set s = record { previous = s; entries = [] }

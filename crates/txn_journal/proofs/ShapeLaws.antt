@@ -7,6 +7,7 @@ use Rattle.std.proofs.lemmas.Bool.{leb-true, leb-false, le-leb, lt-leb, ltb-true
 use Rattle.std.proofs.lemmas.Option.{same_Some}
 use Rattle.std.proofs.lemmas.List.{append-nil, length-map}
 use Rattle.std.proofs.lemmas.Slice.Eq.{bytes_eq-Decides}
+use Rattle.lemmas.proofs.Options.{cond_none}
 use Rattle.rows.specs.Names.{is_name}
 use Rattle.rows.specs.declared.schema.Table.{Table}
 use Rattle.rows.specs.declared.schema.TableFault.{TableFault}
@@ -239,17 +240,13 @@ pub record Allowed (tables : List Table) (t : Table) : Type 0 where
   pub new : is_taken t.name tables ≡ false
   pub below : has_its_columns t ≡ true
 
-none_if : {A : Type 0} (b : Bool) (x : A) (o : Option A) → cond b (Some x) o ≡ None → (b ≡ false) × (o ≡ None)
-none_if true x o e = absurd cc
-none_if false x o e = (refl, e)
-
 pub allowed : (tables : List Table) (t : Table) → table_fault tables t ≡ None → Allowed tables t
 allowed tables t e =
     let third : Option TableFault = cond (is_taken t.name tables || not (has_its_columns t)) (Some table_faults.Schema) None in
     let second : Option TableFault = cond (not (is_within_limits t && ltb (length tables) 256)) (Some table_faults.Limit) third in
-    let p = none_if (not (has_column_lists t)) table_faults.Body second e in
-    let q = none_if (not (is_within_limits t && ltb (length tables) 256)) table_faults.Limit third p.1 in
-    let r = none_if (is_taken t.name tables || not (has_its_columns t)) table_faults.Schema None q.1 in
+    let p = cond_none (not (has_column_lists t)) table_faults.Body second e in
+    let q = cond_none (not (is_within_limits t && ltb (length tables) 256)) table_faults.Limit third p.1 in
+    let r = cond_none (is_taken t.name tables || not (has_its_columns t)) table_faults.Schema None q.1 in
     let w = and_parts (is_within_limits t) (ltb (length tables) 256) (not-false (is_within_limits t && ltb (length tables) 256) q.0) in
     let n = or_parts (is_taken t.name tables) (not (has_its_columns t)) r.0 in
     record { lists = not-false (has_column_lists t) p.0; limits = w.0; room = w.1; new = n.0; below = not-false (has_its_columns t) n.1 }

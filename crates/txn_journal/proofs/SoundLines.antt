@@ -7,6 +7,7 @@ use Rattle.std.proofs.lemmas.Bool.{eqb-true, ltb-true, leb-true, leb-false, le-l
 use Rattle.std.proofs.lemmas.Result.{MatchResult-weaker}
 use Rattle.std.proofs.lemmas.List.{append-nil, length-append, map_push}
 use Rattle.std.proofs.lemmas.Option.{same_Some}
+use Rattle.lemmas.proofs.Lists.{all_push as all_more}
 use Rattle.gtid_text.proofs.Turns.{chosen}
 use Rattle.row_images.specs.Words.{count_of}
 use Rattle.row_images.proofs.Counts.{count_found}
@@ -25,8 +26,8 @@ use Rattle.txn_journal.specs.Lines.{Numbers, takes, is_place, below, stamp_in}
 use Rattle.txn_journal.specs.Machine.{Standing, fits, open_entry, close_entry, add, begin_stamped, begin, judge}
 use Rattle.txn_journal.specs.Spelling.{Line, Header, Previous, Begin, Makes, End, Close, line_text, numbers_of, entry_lines, entries_lines, opening_lines, front_lines, FitsChange, FitsEntry, IsWritten, IsStamp, AreStamps}
 use Rattle.txn_journal.specs.LinesSoFar.{lines_so_far}
-use Rattle.txn_journal.specs.declared.lines.Place.{Place}
-use Rattle.txn_journal.specs.declared.lines.Place.TheVariants as places
+use Rattle.txn_journal.specs.declared.lines.LinePlace.{LinePlace}
+use Rattle.txn_journal.specs.declared.lines.LinePlace.TheVariants as places
 use Rattle.txn_journal.specs.declared.lines.Version.{Version}
 use Rattle.txn_journal.specs.declared.lines.Version.TheVariants.{One, Two}
 use Rattle.txn_journal.specs.Wordings.{ParsesAsLine}
@@ -35,11 +36,10 @@ use Rattle.txn_journal.proofs.GtidLaws.{written_numbers}
 use Rattle.txn_journal.proofs.Judged.{if_both}
 use Rattle.txn_journal.proofs.WordLaws.{judged_both}
 use Rattle.txn_journal.proofs.LineReads.{body_of, put, judge_reads, rest_laws}
-use Rattle.rows.proofs.Lists.{all_push as all_more}
 
 -- ---- the lines so far, and what is known of them
 
-abbrev pub placed : Place → Standing → Standing
+abbrev pub placed : LinePlace → Standing → Standing
 placed place s = record s { place = place }
 
 -- the previous set with the GTIDs of the entries
@@ -80,7 +80,7 @@ pub record FreshStart (s : Standing) : Type 0 where
   pub none_counted : s.count ≡ 0
   pub none_open : s.changes ≡ []
 
-abbrev pub Sound_at : Option (List Table) → Place → Standing → Type 0
+abbrev pub Sound_at : Option (List Table) → LinePlace → Standing → Type 0
 Sound_at schema places.Header s = FreshStart s
 Sound_at schema places.Previous s = FreshStart s × (takes s.due s.version ≡ true)
 Sound_at schema places.Between s = Whole schema s × (s.changes ≡ [])
@@ -246,14 +246,14 @@ add_both schema s line c P h more =
     within_limits s x few short (inl many) = let k = le-leb 65536 (length s.changes) many in cc
     within_limits s x few short (inr long) = let m : not (is_change_writable x) ≡ true = ap not long in cc
 
-no_change : (place : Place) (c : Change) → is_due place (word_for (Makes c)) ≡ true → place ≡ places.Within
+no_change : (place : LinePlace) (c : Change) → is_due place (word_for (Makes c)) ≡ true → place ≡ places.Within
 no_change place c e = grind arith
 
 -- what is open, and the place, make no difference
-again : (schema : Option (List Table)) (s : Standing) (place : Place) (g : Gtid) (stamp : ℕ) (cs : List Change) → Whole schema s → Whole schema (record s { place = place; gtid = g; stamp = stamp; changes = cs })
+again : (schema : Option (List Table)) (s : Standing) (place : LinePlace) (g : Gtid) (stamp : ℕ) (cs : List Change) → Whole schema s → Whole schema (record s { place = place; gtid = g; stamp = stamp; changes = cs })
 again schema s place g stamp cs w = record { due = w.due; new = w.new; writable = w.writable; previous = w.previous; fits = w.fits; fitting = w.fitting; stamped = w.stamped; all_seen = w.all_seen; counted = w.counted; few = w.few }
 
-keeps_at : (schema : Option (List Table)) (place : Place) (s : Standing) (line : List ℕ) (l : Line) → Sound_at schema place s → is_due place (word_for l) ≡ true → ParsesAsLine (wording schema (placed place s)) line l
+keeps_at : (schema : Option (List Table)) (place : LinePlace) (s : Standing) (line : List ℕ) (l : Line) → Sound_at schema place s → is_due place (word_for l) ≡ true → ParsesAsLine (wording schema (placed place s)) line l
     → MatchResult (put schema (placed place s) l) (Keeps schema (placed place s) l) (HasCause schema (placed place s) line)
 unfolding put
 keeps_at schema places.Header s line (Header v) h is k = record { same_due = refl; says = refl; goes = record { stamps = refl; entries = refl }; sound = (record { none_stamped = h.none_stamped; none_counted = h.none_counted; none_open = h.none_open }, k.fits.of_version) }

@@ -15,8 +15,8 @@ use Rattle.row_images.proofs.Counts.{lacks, is_count_decimal}
 use Rattle.row_images.specs.Parts.{parts_of, joined_by}
 use Rattle.row_images.proofs.PartLaws.{AllLack, parts_joined, parts_again}
 use Rattle.txn_journal.specs.Splits.{are_new_to, are_columns, is_columns_text, column_words, columns_text}
-use Rattle.txn_journal.proofs.GtidLaws.{joins}
 use Rattle.std.proofs.lemmas.Fmt.{decimal_injective}
+use Rattle.lemmas.proofs.Lists.{all_true_append as joins}
 use Rattle.row_images.proofs.ValueLaws.{same_bytes}
 
 -- a byte that is in no part, and is not the separator

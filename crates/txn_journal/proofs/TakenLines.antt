@@ -19,8 +19,8 @@ use Rattle.txn_journal.specs.Causes.{word_for, wording, HasCause}
 use Rattle.txn_journal.specs.declared.fault.Cause.{Cause}
 use Rattle.txn_journal.specs.declared.fault.Cause.TheVariants as causes
 use Rattle.txn_journal.specs.declared.fault.JournalFault.{JournalFault}
-use Rattle.txn_journal.specs.declared.lines.Place.{Place}
-use Rattle.txn_journal.specs.declared.lines.Place.TheVariants as places
+use Rattle.txn_journal.specs.declared.lines.LinePlace.{LinePlace}
+use Rattle.txn_journal.specs.declared.lines.LinePlace.TheVariants as places
 use Rattle.txn_journal.specs.declared.lines.Keyword.TheVariants as keywords
 use Rattle.txn_journal.proofs.WordLaws.{read_by, read_both, judged_both}
 use Rattle.txn_journal.proofs.LineReads.{body_of, put, judge_reads, rest_laws}
@@ -40,10 +40,10 @@ behind_cond : (front : Stamped) (b : Bool) (c : Cause) (x : Result Standing Caus
 behind_cond front true c x y e = refl
 behind_cond front false c x y e = e
 
-no_previous : (place : Place) → has_begun place ≡ true → is_due place keywords.Previous ≡ true → ⊥
+no_previous : (place : LinePlace) → has_begun place ≡ true → is_due place keywords.Previous ≡ true → ⊥
 no_previous place b e = grind arith
 
-no_header : (place : Place) → has_begun place ≡ true → is_due place keywords.Journal ≡ true → ⊥
+no_header : (place : LinePlace) → has_begun place ≡ true → is_due place keywords.Journal ≡ true → ⊥
 no_header place b e = grind arith
 
 stamped_behind : (front : Stamped) (s : Standing) (g : Gtid) (o : Option ℕ) → begin_stamped (with_taken front s) g o ≡ behind_ok front (begin_stamped s g o)

@@ -1,5 +1,5 @@
 -- Bundles as a format, and a bundle that comes in pieces.
-use Rattle.std.specs.Prelude.{◌≡◌, ℕ, Bool, true, false, List, Option, Some, None, Result, Ok}
+use Rattle.std.specs.Prelude.{◌≡◌, ◌++◌, ℕ, Bool, true, false, List, Option, Some, None, Result, Ok}
 use Rattle.gtid_set.specs.declared.fault.SetFault.{SetFault}
 use Rattle.rows.specs.declared.change.TableRow.{TableRow}
 use Rattle.txn_journal.specs.declared.fault.JournalFault.{JournalFault}
@@ -12,7 +12,7 @@ use Rattle.txn_journal.specs.Machine.{is_within}
 use Rattle.txn_journal.specs.declared.lines.Keyword.{Keyword}
 use Rattle.txn_journal.specs.declared.lines.Keyword.TheVariants as keywords
 use Rattle.txn_journal.specs.declared.lines.Version.{Version}
-use Rattle.txn_journal.specs.declared.lines.Place.{Place}
+use Rattle.txn_journal.specs.declared.lines.LinePlace.{LinePlace}
 use Rattle.txn_journal.specs.declared.bundle_draft.Part.{Part}
 use Rattle.txn_journal.specs.declared.bundle_draft.Part.TheVariants as parts
 use Rattle.txn_journal.specs.BundleText.{BundleLine, bundle_line_text, WritesBundleBy, AlmostWritesBundle}
@@ -27,7 +27,7 @@ is_inside (Some keywords.Del) = true
 is_inside _ = false
 
 -- an entry of the journal that is open
-abbrev pub is_entry_open : Part → Place → Bool
+abbrev pub is_entry_open : Part → LinePlace → Bool
 is_entry_open parts.Journal place = is_within place
 is_entry_open _ place = false
 
@@ -59,7 +59,8 @@ bundle_start due = start_of (bundles due)
 abbrev pub feed_bundle_bytes : Progress BundleStanding → List ℕ → Progress BundleStanding
 feed_bundle_bytes p bytes = feed_bytes_by (bundles None) p bytes
 
--- why bytes are not taken, though nothing is wrong with them: memory was refused, or the opening set or that of a channel's journal has too many sources or intervals after some of them
+-- why bytes are not taken, though nothing is wrong with them: out of memory, or the opening set or that of a channel's journal has too many
+-- sources or intervals after some of them
 abbrev pub IsFaultOfBundle : Progress BundleStanding → List ℕ → SetFault → Type 0
 IsFaultOfBundle p bytes fault = IsFaultBy (bundles None) p bytes fault
 
@@ -70,3 +71,7 @@ closing_bundle p = closing_by (bundles None) p
 -- the bytes are read as this bundle, by the fold over them
 abbrev pub IsReadAs : List ℕ → BundleValue → Type 0
 IsReadAs bytes b = closing_bundle (feed_bundle_bytes (bundle_start None) bytes) ≡ Ok b
+
+-- In whatever two pieces bytes come, what is read is the same.
+abbrev pub AnyCutOfBundles : Type 0
+AnyCutOfBundles = (p : Progress BundleStanding) (front back : List ℕ) → feed_bundle_bytes p (front ++ back) ≡ feed_bundle_bytes (feed_bundle_bytes p front) back

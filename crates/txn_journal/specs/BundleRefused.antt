@@ -5,7 +5,7 @@ use Rattle.txn_journal.specs.Formats.{RefusesBy}
 use Rattle.txn_journal.specs.BundleReading.{bundles}
 use Rattle.txn_journal.specs.declared.fault.JournalFault.{JournalFault}
 
--- what each fault means for the text, where a bundle of this version is due, or of any
+-- what each fault means for the text, if a bundle of this version is due, or of any
 abbrev pub RefusesBundleBy : Option Version → JournalFault → List ℕ → Type 0
 RefusesBundleBy due fault bytes = RefusesBy (bundles due) fault bytes
 

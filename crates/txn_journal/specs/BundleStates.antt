@@ -122,7 +122,7 @@ channel_in (Some text) = do
 
 -- ---- one line more
 
--- the tables end here, where they have not
+-- the tables end here, if they have not ended yet
 abbrev pub open_rows : Part → BundleStanding → BundleStanding
 open_rows parts.Tables s = record s { part = parts.Rows; tables = []; bundle = bare s.bundle.replica s.bundle.opened s.tables }
 open_rows _ s = s
@@ -134,7 +134,7 @@ abbrev pub ok_rows : Result Rows RowFault → Result Rows Cause
 ok_rows (Ok rows) = Ok rows
 ok_rows (Err fault) = Err causes.Schema
 
--- one opening row more, where the schema takes it and no row carries one of its keys
+-- one more opening row, if the schema takes it and no row carries one of its keys
 unfoldable pub with_opening : Database → TableRow → Result Rows Cause
 with_opening d r = if is_some (misfit d.schema (opening r.table r.row)) then Err causes.Schema else ok_rows (apply d.schema (opening r.table r.row) d.rows)
 
@@ -224,7 +224,7 @@ after_inner s draft = if is_last draft.place then close_channel s draft else rec
 abbrev pub is_misstamped : Version → List Table → Standing → Standing → Bool
 is_misstamped version tables s draft = is_within s.place && (not (is_within draft.place) && not (s.stamp == right_stamp version tables s.journal.entries (open_entry s)))
 
--- what is taken, where entries are tested as a whole or are not
+-- what is taken, whether entries are tested as a whole or not
 abbrev pub unless_misstamped : Bool → BundleStanding → Standing → Result BundleStanding Cause
 unless_misstamped whole s draft = if whole && is_misstamped s.version s.bundle.start.schema s.draft draft then Err causes.Stamp else Ok (after_inner s draft)
 

@@ -159,7 +159,7 @@ abbrev pub IsOpeningSet : Version → Gtids → Type 0
 IsOpeningSet One opened = opened ≡ set.empty
 IsOpeningSet Two opened = IsWrittenSet opened
 
--- what a bundle keeps, where its rows come in this order
+-- what a bundle keeps, if its rows come in this order
 pub record IsWrittenBundle (version : Version) (rows : List TableRow) (b : BundleValue) : Type 0 where
   pub replica : IsSource b.replica
   pub opened : IsOpeningSet version b.opened
@@ -220,3 +220,7 @@ pub record AlmostWritesAs (version : Version) (bytes : List ℕ) (b : BundleValu
 
 abbrev pub AlmostWritesBundle : Option Version → List ℕ → BundleValue → Type 0
 AlmostWritesBundle due bytes b = (version : Version) × (takes due version ≡ true) × AlmostWritesAs version bytes b
+
+-- A bundle of version 1 has a text by version 2.
+abbrev pub UpgradeHasText : Type 0
+UpgradeHasText = (bytes : List ℕ) (b : BundleValue) → WritesBundleBy (Some One) bytes b → WritesBundleBy (Some Two) (upgrade_of b) b

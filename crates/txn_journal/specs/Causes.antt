@@ -85,7 +85,7 @@ PassesLimit s (Begin g numbers) = 4294967294 ≤ s.count
 PassesLimit s (Makes change) = (65536 ≤ length s.changes) ⊎ (is_change_writable change ≡ false)
 PassesLimit s _ = ⊥
 
--- a change that no table takes, where there is a schema
+-- a change that no table takes, if there is a schema
 abbrev pub IsMisfit : Option (List Table) → Line → Type 0
 IsMisfit schema (Makes change) = fits schema change ≡ false
 IsMisfit schema _ = ⊥

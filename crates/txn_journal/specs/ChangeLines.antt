@@ -8,7 +8,7 @@ use Rattle.txn_journal.specs.Due.{is_due}
 use Rattle.txn_journal.specs.Lines.{◌>>=◌, keyword_of, due, table_in, image_in, images_in}
 use Rattle.txn_journal.specs.declared.fault.Cause.{Cause}
 use Rattle.txn_journal.specs.declared.fault.Cause.TheVariants as causes
-use Rattle.txn_journal.specs.declared.lines.Place.TheVariants as places
+use Rattle.txn_journal.specs.declared.lines.LinePlace.TheVariants as places
 use Rattle.txn_journal.specs.declared.lines.Keyword.{Keyword}
 use Rattle.txn_journal.specs.declared.lines.Keyword.TheVariants as keywords
 
@@ -28,7 +28,7 @@ change_at keywords.Upd rest = do
   Ok (Update table.0 images.0 images.1)
 change_at _ rest = Err causes.Keyword
 
--- the change that a line writes, where an entry is open
+-- the change that a line writes, if an entry is open
 unfoldable pub change_in : List ℕ → Result Change Cause
 change_in line = do
   word ← due (is_due places.Within) (keyword_of (first_word line))

@@ -1,12 +1,12 @@
 -- Which word is due where.
 use Rattle.std.specs.Prelude.{Bool, true, false}
-use Rattle.txn_journal.specs.declared.lines.Place.{Place}
-use Rattle.txn_journal.specs.declared.lines.Place.TheVariants as places
+use Rattle.txn_journal.specs.declared.lines.LinePlace.{LinePlace}
+use Rattle.txn_journal.specs.declared.lines.LinePlace.TheVariants as places
 use Rattle.txn_journal.specs.declared.lines.Keyword.{Keyword}
 use Rattle.txn_journal.specs.declared.lines.Keyword.TheVariants as keywords
 
 -- the words that are due at a place
-abbrev pub is_due : Place → Keyword → Bool
+abbrev pub is_due : LinePlace → Keyword → Bool
 is_due places.Header keywords.Journal = true
 is_due places.Previous keywords.Previous = true
 is_due places.Between keywords.Txn = true

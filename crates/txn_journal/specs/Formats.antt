@@ -62,7 +62,7 @@ start_of f = Reading f.start 0 []
 abbrev pub feed_bytes_by : (f : Format) → Progress f.State → List ℕ → Progress f.State
 feed_bytes_by f p bytes = feed_bytes f.judge p bytes
 
--- why bytes are not taken, though nothing is wrong with them: memory was refused, or a set has too many sources or intervals after some of them
+-- why bytes are not taken, though nothing is wrong with them: out of memory, or a set has too many sources or intervals after some of them
 abbrev pub IsFaultBy : (f : Format) → Progress f.State → List ℕ → SetFault → Type 0
 IsFaultBy f p bytes fault = IsPieceFault f.IsFull f.judge p bytes fault
 
@@ -81,7 +81,7 @@ whole_by f bytes = closing_by f (feed_bytes_by f (start_of f) bytes)
 
 -- ---- texts that are refused
 
--- where an entry is open, it may still become what it has to be as a whole
+-- if an entry is open, it may still become what it has to be as a whole
 abbrev pub MayWrite : (f : Format) → Bool → List ℕ → f.Value → Type 0
 MayWrite f true bytes v = f.AlmostWrites bytes v
 MayWrite f false bytes v = f.Writes bytes v

@@ -7,8 +7,8 @@ use Rattle.gtid_set.specs.Sets.{Gtids}
 use Rattle.rows.specs.declared.change.Change.{Change}
 use Rattle.journal.specs.Journals.{JournalValue, whole}
 use Rattle.journal.specs.Writing.{is_number, is_change_writable}
-use Rattle.txn_journal.specs.declared.lines.Place.{Place}
-use Rattle.txn_journal.specs.declared.lines.Place.TheVariants.{Within}
+use Rattle.txn_journal.specs.declared.lines.LinePlace.{LinePlace}
+use Rattle.txn_journal.specs.declared.lines.LinePlace.TheVariants.{Within}
 
 -- each GTID of the journal was seen
 abbrev pub IsSeen : JournalValue → Gtids → Type 0
@@ -20,7 +20,7 @@ pub record HasRoomFor (seen : Gtids) (count : ℕ) (gtid : Gtid) : Type 0 where
   pub number : is_number gtid.number ≡ true
   pub room : count < 4294967294
 
-abbrev pub IsOpenNew : Place → Gtids → ℕ → Gtid → Type 0
+abbrev pub IsOpenNew : LinePlace → Gtids → ℕ → Gtid → Type 0
 IsOpenNew place seen count gtid = place ≡ Within → HasRoomFor seen count gtid
 
 -- the changes of an entry that is open can be written

@@ -49,7 +49,7 @@ due is_due (Some word) = if is_due word then Ok word else Err causes.Keyword
 
 -- ---- versions
 
--- a version is allowed where it is due, or where any is
+-- a version is allowed if it is due, or if any is
 abbrev pub takes : Option Version → Version → Bool
 takes None version = true
 takes (Some One) One = true
@@ -124,7 +124,7 @@ abbrev pub stamp_in : ℕ → Option Numbers → Option ℕ
 stamp_in place None = Some 0
 stamp_in place (Some numbers) = if is_place place (count_of numbers.sequence_number) then below place (count_of numbers.last_committed) else None
 
--- the GTID of the entry at a place, and its last_committed where its numbers are allowed there
+-- the GTID of the entry at a place, and its last_committed if its numbers are allowed there
 abbrev pub at_place : ℕ → Beginning → Gtid × Option ℕ
 at_place place b = (b.gtid, stamp_in place b.numbers)
 

@@ -2,10 +2,10 @@
 use Rattle.std.specs.Prelude.{◌+◌, List, [], ◌∷◌, ◌++◌, map}
 use Rattle.txn_journal.specs.Spelling.{Line, Header, Begin, Makes, Close, numbers_of, front_lines}
 use Rattle.txn_journal.specs.Machine.{Standing}
-use Rattle.txn_journal.specs.declared.lines.Place.{Place}
-use Rattle.txn_journal.specs.declared.lines.Place.TheVariants as places
+use Rattle.txn_journal.specs.declared.lines.LinePlace.{LinePlace}
+use Rattle.txn_journal.specs.declared.lines.LinePlace.TheVariants as places
 
-abbrev pub lines_so_far_at : Place → Standing → List Line
+abbrev pub lines_so_far_at : LinePlace → Standing → List Line
 lines_so_far_at places.Header s = []
 lines_so_far_at places.Previous s = Header s.version ∷ []
 lines_so_far_at places.Between s = front_lines s.version s.stamps s.journal

@@ -21,18 +21,18 @@ use Rattle.txn_journal.specs.declared.fault.Cause.{Cause}
 use Rattle.txn_journal.specs.declared.fault.Cause.TheVariants as causes
 use Rattle.txn_journal.specs.Stream.{TakesLine}
 use Rattle.txn_journal.specs.declared.fault.LineFault.{LineFault}
-use Rattle.txn_journal.specs.declared.lines.Place.{Place}
-use Rattle.txn_journal.specs.declared.lines.Place.TheVariants as places
+use Rattle.txn_journal.specs.declared.lines.LinePlace.{LinePlace}
+use Rattle.txn_journal.specs.declared.lines.LinePlace.TheVariants as places
 use Rattle.txn_journal.specs.declared.lines.Keyword.{Keyword}
 use Rattle.txn_journal.specs.declared.lines.Keyword.TheVariants as keywords
 use Rattle.txn_journal.specs.declared.lines.Version.{Version}
 use Rattle.txn_journal.specs.declared.lines.Version.TheVariants.{One}
 
 -- What the lines so far have made. `due` is the version that is due, if not each known one is; `seen` has the GTIDs of the previous set and
--- of all `count` entries, those that were taken too. `stamps` has the last_committed of each entry of the journal, `stamp` that of the
--- entry that is open.
+-- of all `count` entries, including those that were taken. `stamps` has the last_committed of each entry of the journal, `stamp` that of
+-- the entry that is open.
 pub record Standing : Type 0 where
-  pub place : Place
+  pub place : LinePlace
   pub due : Option Version
   pub version : Version
   pub journal : JournalValue
@@ -59,12 +59,12 @@ empty due = record {
 }
 
 -- the last line has come
-abbrev pub is_last : Place → Bool
+abbrev pub is_last : LinePlace → Bool
 is_last places.Ended = true
 is_last _ = false
 
 -- an entry is open
-abbrev pub is_within : Place → Bool
+abbrev pub is_within : LinePlace → Bool
 is_within places.Within = true
 is_within _ = false
 
@@ -186,6 +186,6 @@ judge schema s line = do
   word ← due (is_due s.place) (keyword_of (first_word line))
   step schema s word (others line)
 
--- what a call did with a line, where the schema is this
+-- what a call did with a line, if the schema is this
 abbrev pub TakesIn : Option (List Table) → Standing → List ℕ → Result (Unit {0}) LineFault → Standing → Type 0
 TakesIn schema old line result new = TakesLine IsFull result (judge schema old line) new

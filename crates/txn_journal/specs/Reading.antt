@@ -12,8 +12,8 @@ use Rattle.txn_journal.specs.Spelling.{Line, line_text, WritesAs, Writes}
 use Rattle.txn_journal.specs.LinesSoFar.{lines_so_far}
 use Rattle.txn_journal.specs.Causes.{HasCause}
 use Rattle.txn_journal.specs.declared.lines.Version.{Version}
-use Rattle.txn_journal.specs.declared.lines.Place.{Place}
-use Rattle.txn_journal.specs.declared.lines.Place.TheVariants as places
+use Rattle.txn_journal.specs.declared.lines.LinePlace.{LinePlace}
+use Rattle.txn_journal.specs.declared.lines.LinePlace.TheVariants as places
 
 -- journals that stand alone
 abbrev pub journals_as : {V : Type 0} → Option Version → (Standing → V) → (List ℕ → V → Type 0) → Format
@@ -55,7 +55,7 @@ IsWrittenAs due bytes w = (takes due w.version ≡ true) × WritesAs w.version w
 abbrev pub written_journals : Option Version → Format
 written_journals due = journals_as due as_written (IsWrittenAs due)
 
--- before the first byte, where this version is due, or each
+-- before the first byte, if this version is due, or any
 abbrev pub alone_start : Option Version → Progress Standing
 alone_start due = Reading (empty due) 0 []
 
@@ -66,7 +66,8 @@ before_first = alone_start None
 abbrev pub feed_journal_bytes : Progress Standing → List ℕ → Progress Standing
 feed_journal_bytes p bytes = feed_bytes_by journals p bytes
 
--- why bytes are not taken, though nothing is wrong with them: memory was refused, or a journal's set has too many sources or intervals after some of them
+-- why bytes are not taken, though nothing is wrong with them: out of memory, or a journal's set has too many sources or intervals after
+-- some of them
 abbrev pub IsFaultAlone : Progress Standing → List ℕ → SetFault → Type 0
 IsFaultAlone p bytes fault = IsFaultBy journals p bytes fault
 
@@ -105,7 +106,7 @@ with_front front (Ok journal) = Ok (in_front front journal)
 with_front front (Err fault) = Err fault
 
 -- the lines of a journal's opening have come, so that entries may
-abbrev pub has_begun : Place → Bool
+abbrev pub has_begun : LinePlace → Bool
 has_begun places.Header = false
 has_begun places.Previous = false
 has_begun _ = true
@@ -117,3 +118,11 @@ HasBegun (Stopped fault) = Unit {0}
 -- earlier entries make no difference to what bytes do
 abbrev pub FeedsBehind : Stamped → Progress Standing → List ℕ → Type 0
 FeedsBehind front p bytes = feed_journal_bytes (behind_entries front p) bytes ≡ behind_entries front (feed_journal_bytes p bytes)
+
+-- What is read is the same, in whatever two pieces the bytes come.
+abbrev pub AnyCut : Type 0
+AnyCut = (p : Progress Standing) (front back : List ℕ) → feed_journal_bytes p (front ++ back) ≡ feed_journal_bytes (feed_journal_bytes p front) back
+
+-- Entries that were taken stand in front of those of the journal that is read at the end.
+abbrev pub EndsBehind : Type 0
+EndsBehind = (front : Stamped) (p : Progress Standing) → closing (behind_entries front p) ≡ with_front front.entries (closing p)

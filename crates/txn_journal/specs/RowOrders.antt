@@ -2,7 +2,7 @@
 use Rattle.std.specs.Prelude.{◌≡◌, ◌⊎◌, ℕ, List, [], ◌∷◌}
 use Rattle.rows.specs.declared.change.TableRow.{TableRow}
 use Rattle.txn_journal.specs.BundleStates.{BundleValue}
-use Rattle.txn_journal.specs.BundleText.{bundle_spelling}
+use Rattle.txn_journal.specs.BundleText.{bundle_spelling, WritesBundleAs}
 use Rattle.txn_journal.specs.declared.lines.Version.{Version}
 
 -- the row is one of these
@@ -29,3 +29,7 @@ pub record DifferInOrder (version : Version) (b : BundleValue) (x y : List ℕ) 
   pub one : x ≡ bundle_spelling version old b
   pub other : y ≡ bundle_spelling version new b
   pub reordered : AreReordered old new
+
+-- Two texts of a bundle by one version differ in the order of its `row` lines at most.
+abbrev pub TextsDifferInOrder : Type 0
+TextsDifferInOrder = (v : Version) (b : BundleValue) (x y : List ℕ) → WritesBundleAs v x b → WritesBundleAs v y b → DifferInOrder v b x y

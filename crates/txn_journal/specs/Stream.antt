@@ -21,8 +21,7 @@ abbrev pub GivesFull : {S : Type 0} → (S → Type 0) → Result S Cause → Ty
 GivesFull full (Ok s) = full s
 GivesFull full (Err cause) = ⊥
 
--- What a call did with a line is what judging it gives, unless memory was refused or what it makes is full; `full` has which of the two
--- faults.
+-- What a call did with a line is what judging it gives, unless out of memory or what it makes is full; `full` has which of the two faults.
 abbrev pub TakesLine : {S : Type 0} → (SetFault → S → Type 0) → Result (Unit {0}) LineFault → Result S Cause → S → Type 0
 TakesLine full (Ok _) judged new = judged ≡ Ok new
 TakesLine full (Err (wrong.Wrong cause)) judged new = judged ≡ Err cause
@@ -32,7 +31,7 @@ TakesLine full (Err (wrong.Set fault)) judged new = IsMemoryOr (GivesFull (full 
 abbrev pub IsRefusedWhereFull : {S : Type 0} → (SetFault → S → Type 0) → Result (Unit {0}) LineFault → Result S Cause → Type 0
 IsRefusedWhereFull full result judged = GivesFull (full SourcesFull) judged → result ≡ Err (wrong.Set SourcesFull)
 
--- A call that takes a plain line has made what judging it gives, or, with false, left all as it was, unless memory was refused.
+-- A call that takes a plain line has made what judging it gives, or answered false and changed nothing, unless out of memory.
 abbrev pub TakesPlain : {S : Type 0} → Result Bool AllocError → Result S Cause → S → S → Type 0
 TakesPlain (Ok true) judged old new = judged ≡ Ok new
 TakesPlain (Ok false) judged old new = new ≡ old
@@ -48,13 +47,13 @@ TakesPart (Ok _) judged new = judged ≡ Ok new
 TakesPart (Err (wrong.Wrong cause)) judged new = judged ≡ Err cause
 TakesPart (Err (wrong.Set fault)) judged new = fault ≡ Memory
 
--- The view of what a call found in a part of a line is what reading it gives, unless memory was refused.
+-- The view of what a call found in a part of a line is what reading it gives, unless out of memory.
 abbrev pub Finds : {X Y : Type 0} → (X → Y) → Result X LineFault → Result Y Cause → Type 0
 Finds view (Ok x) read = read ≡ Ok (view x)
 Finds view (Err (wrong.Wrong cause)) read = read ≡ Err cause
 Finds view (Err (wrong.Set fault)) read = fault ≡ Memory
 
--- How far the reading has come: so many whole lines, and the bytes of the next; or it has stopped.
+-- How far the reading has come: how many whole lines, and the bytes of the next; or it has stopped.
 pub data Progress (S : Type 0) : Type 0 where
   Reading : S → ℕ → List ℕ → Progress S
   Stopped : JournalFault → Progress S
@@ -92,7 +91,7 @@ pub record Fills {S : Type 0} (full : S → Type 0) (judge : Judge S) (p : Progr
   pub parts : bytes ≡ front ++ rest
   pub is_full : HasFull full (feed_bytes judge p front)
 
--- why bytes are not taken, though nothing is wrong with them: memory was refused, or what some of them make is full
+-- why bytes are not taken, though nothing is wrong with them: out of memory, or what some of them make is full
 abbrev pub IsPieceFault : {S : Type 0} → (SetFault → S → Type 0) → Judge S → Progress S → List ℕ → SetFault → Type 0
 IsPieceFault full judge p bytes fault = IsMemoryOr (Fills (full SourcesFull) judge p bytes) (Fills (full PoolFull) judge p bytes) fault
 
@@ -112,7 +111,7 @@ abbrev pub answer : {S : Type 0} → Progress S → Result (Unit {0}) JournalFau
 answer (Reading s n rest) = Ok tt
 answer (Stopped fault) = Err fault
 
--- the end of the text, where its last line has come or has not
+-- the end of the text, whose last line has come or has not
 abbrev pub end_of_text : Bool → List ℕ → ℕ → Result (Unit {0}) JournalFault
 end_of_text false rest n = Err (faults.Truncated (next_number n))
 end_of_text true [] n = Ok tt
@@ -125,7 +124,7 @@ TakesPiece may (Err (faults.Set fault)) new after = may fault
 TakesPiece may (Err (faults.Line n cause)) new after = after ≡ Stopped (faults.Line n cause)
 TakesPiece may (Err (faults.Truncated n)) new after = ⊥
 
--- The first line of a piece, of which no byte came before, is refused for its sources where it makes what is full of them.
+-- The first line of a piece, of which no byte came before, is refused for its sources if it makes what is full of them.
 abbrev pub NamesSources : {S : Type 0} → (S → Type 0) → (SetFault → S → Type 0) → Judge S → Progress S → List ℕ → Result (Unit {0}) JournalFault → Type 0
 NamesSources {S} Counts full judge old piece result =
     (s : S) → (n : ℕ) → (line after : List ℕ) → old ≡ Reading s n [] → Counts s → BeginsWithLine piece line after → GivesFull (full SourcesFull) (judge s line) → result ≡ Err (faults.Set SourcesFull)
@@ -136,7 +135,7 @@ end_of is_last (Stopped fault) = Err fault
 
 -- ---- the whole of a text
 
--- what has come, where the text may end there
+-- what has come, if the text may end there
 abbrev pub at_end : {V : Type 0} → Result (Unit {0}) JournalFault → V → Result V JournalFault
 at_end (Ok _) value = Ok value
 at_end (Err fault) value = Err fault

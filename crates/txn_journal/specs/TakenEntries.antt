@@ -13,7 +13,7 @@ use Rattle.txn_journal.specs.Lines.{◌>>=◌}
 use Rattle.txn_journal.specs.Machine.{Standing, fits, join_entry}
 use Rattle.txn_journal.specs.EntryLines.{ended}
 use Rattle.txn_journal.specs.declared.fault.Cause.{Cause}
-use Rattle.txn_journal.specs.declared.lines.Place.TheVariants.{Between}
+use Rattle.txn_journal.specs.declared.lines.LinePlace.TheVariants.{Between}
 use Rattle.txn_journal.specs.declared.lines.Version.TheVariants.{One}
 
 -- what lines make, one after another
@@ -21,7 +21,7 @@ abbrev pub judge_all : {S : Type 0} → Judge S → S → List (List ℕ) → Re
 judge_all judge s [] = Ok s
 judge_all judge s (l ∷ ls) = judge s l >>= λ t. judge_all judge t ls
 
--- a text is so many whole lines, which make this
+-- a text is this many whole lines, which make this
 pub record Makes {S : Type 0} (judge : Judge S) (text : List ℕ) (count : ℕ) (old new : S) : Type 0 where
   pub lines : List (List ℕ)
   pub parts : text ≡ ended lines
@@ -29,13 +29,13 @@ pub record Makes {S : Type 0} (judge : Judge S) (text : List ℕ) (count : ℕ) 
   pub number : count ≡ length lines
   pub made : judge_all judge old lines ≡ Ok new
 
--- A call that takes the lines of a text has made what they make, or, with false, left all as it was, unless memory was refused.
+-- A call that takes the lines of a text has made what they make, or answered false and changed nothing, unless out of memory.
 abbrev pub TakesText : {S : Type 0} → Judge S → Result Bool AllocError → List ℕ → ℕ → S → S → Type 0
 TakesText judge (Ok true) text count old new = Makes judge text count old new
 TakesText judge (Ok false) text count old new = new ≡ old
 TakesText judge (Err _) text count old new = Unit {0}
 
--- nothing is wrong with an entry of version 1 of this GTID and these changes, where it comes next
+-- nothing is wrong with an entry of version 1 of this GTID and these changes, if it comes next
 pub record MayFollow (tables : List Table) (s : Standing) (gtid : Gtid) (changes : List Change) : Type 0 where
   pub place : s.place ≡ Between
   pub version : s.version ≡ One
@@ -49,7 +49,7 @@ pub record MayFollow (tables : List Table) (s : Standing) (gtid : Gtid) (changes
 abbrev pub with_entry : Standing → Gtid → List Change → Standing
 with_entry s gtid changes = join_entry (record s { gtid = gtid; stamp = 0 }) (record { gtid = gtid; txn = record { changes = changes } })
 
--- A call that takes an entry whole has joined it to the others, or, with false, left all as it was, unless memory was refused.
+-- A call that takes an entry whole has joined it to the others, or answered false and changed nothing, unless out of memory.
 abbrev pub JoinsEntry : List Table → Result Bool AllocError → Gtid → List Change → Standing → Standing → Type 0
 JoinsEntry tables (Ok true) gtid changes old new = MayFollow tables old gtid changes × (new ≡ with_entry old gtid changes)
 JoinsEntry tables (Ok false) gtid changes old new = new ≡ old

@@ -49,7 +49,7 @@ BeginsAsVersionOne bytes = (rest : List ℕ) × (bytes ≡ codes "journal 1\n" +
 abbrev pub first_line_version : JournalFault
 first_line_version = faults.Line 1 causes.Version
 
--- a journal with the last_committed that the keys of its entries give, where its tables are these
+-- a journal with the last_committed that the keys of its entries give, if its tables are these
 abbrev pub with_timestamps : List Table → JournalValue → TimestampedValue
 with_timestamps tables j = record { journal = j; last_committed = right_stamps Two tables j.entries }
 

@@ -97,7 +97,7 @@ impl Part {
 #[derive(Drop)]
 pub struct BundleDraft {
     part: Part,
-    /// The version that is due, or none where each known one is.
+    /// The version that is due, or none if any known one is.
     due: Option<Version>,
     version: Version,
     names: Names,
@@ -165,7 +165,7 @@ fn has_channel(channels: &[BundleChannel], name: &Name) -> bool
     channels.iter().any(|channel| channel.name == *name)
 }
 
-/// Drops the last writers, where there are any.
+/// Drops the last writers, if there are any.
 fn forget(writers: &mut Option<LastWriters>)
     ensures { writers.new ≡ None }
 {
@@ -182,7 +182,7 @@ impl BundleDraft {
     ghost use Rattle.txn_journal.specs.Machine.{is_within, IsInEntry};
     ghost use Rattle.txn_journal.specs.Drafts.{standing};
     ghost use Rattle.txn_journal.specs.Stamps.{right_stamp};
-    ghost use Rattle.txn_journal.specs.declared.lines.Place.TheVariants.{Within};
+    ghost use Rattle.txn_journal.specs.declared.lines.LinePlace.TheVariants.{Within};
     ghost use Rattle.txn_journal.specs.declared.bundle_draft.Word.TheVariants as words;
     ghost use Rattle.txn_journal.specs.declared.bundle_draft.Part.TheVariants as parts;
     ghost use Rattle.txn_journal.specs.declared.lines.Version.TheVariants.{One, Two};
@@ -318,7 +318,7 @@ impl BundleDraft {
         add_table(alloc, &mut self.names, &mut self.schema, text)
     }
 
-    /// Opens the rows, where the tables end here.
+    /// Opens the rows, if the tables end here.
     fn leave_tables(&mut self, alloc: Global)
         ensures { bundle_standing self.new ≡ after_tables (bundle_standing self.old) }
     {
@@ -420,7 +420,8 @@ impl BundleDraft {
     }
 
     #[tactic(auto, using(crate::proofs::CountedEnds::first_full, crate::proofs::CountedEnds::first_fits))]
-    /// Whether the end of the entry that is open is refused for too many sources, as far as that is known without memory: in version 1, which writes no numbers.
+    /// Whether the end of the entry that is open is refused for too many sources, as far as that is known without an allocation: in version
+    /// 1, which writes no numbers.
     fn is_refused(&self) -> bool
         ensures full { result ≡ true → GivesFull (IsFullBundle SourcesFull) (end_entry (bundle_standing self.now)) }
         ensures room { result ≡ false → self.now.version ≡ One → GivesFull (IsFullBundle SourcesFull) (end_entry (bundle_standing self.now)) → ⊥ }
@@ -432,7 +433,7 @@ impl BundleDraft {
         }
     }
 
-    /// Ends the entry that is open. In version 1 sources are counted before memory is asked for.
+    /// Ends the entry that is open. In version 1 the sources are counted before any allocation.
     fn end_counted(&mut self, alloc: Global) -> Result<(), LineFault>
         requires { (standing self.old.draft).place ≡ Within }
         ensures line { TakesLine IsFullBundle result (end_entry (bundle_standing self.old)) (bundle_standing self.new) }
@@ -444,7 +445,7 @@ impl BundleDraft {
         self.end_entry(alloc)
     }
 
-    /// Ends the entry that is open, where it has the last_committed that it has to have.
+    /// Ends the entry that is open, if it has the last_committed that it has to have.
     fn end_entry(&mut self, alloc: Global) -> Result<(), LineFault>
         requires { (standing self.old.draft).place ≡ Within }
         ensures { TakesLine IsFullBundle result (end_entry (bundle_standing self.old)) (bundle_standing self.new) }
@@ -455,7 +456,7 @@ impl BundleDraft {
         }
     }
 
-    /// The same in version 1, which writes no numbers. No last writers are looked for.
+    /// The same in version 1, which writes no numbers. No last writers are looked up.
     #[inline(never)]
     fn end_unnumbered(&mut self, alloc: Global) -> Result<(), LineFault>
         requires place { (standing self.old.draft).place ≡ Within }
@@ -522,7 +523,7 @@ impl BundleDraft {
         }
     }
 
-    /// Adds the open channel to the bundle, where its journal has ended.
+    /// Adds the open channel to the bundle, if its journal has ended.
     #[tactic(auto, unfolding(crate::specs::BundleStates::after_inner))]
     fn add_open_channel(&mut self, alloc: Global) -> Result<(), LineFault>
         ensures { TakesLine IsFullBundle result (Ok (after_inner (bundle_standing self.old) (bundle_standing self.old).draft)) (bundle_standing self.new) }
@@ -588,7 +589,7 @@ impl BundleDraft {
         }
     }
 
-    /// Ends the entry that is open, where its version writes no numbers and there is room. With false all is left as it was.
+    /// Ends the entry that is open, if its version writes no numbers and there is room. If false, nothing has changed.
     fn end_plain(&mut self, alloc: Global) -> Result<bool, AllocError>
         requires { (standing self.old.draft).place ≡ Within }
         ensures line { TakesPlain result (end_entry (bundle_standing self.old)) (bundle_standing self.old) (bundle_standing self.new) }
@@ -601,7 +602,7 @@ impl BundleDraft {
         self.draft.end_plain(alloc)
     }
 
-    /// Takes a line of the open channel's journal that begins an entry or writes a change, and has no fault. With false all is left as it was.
+    /// Takes a line of the open channel's journal that begins an entry or writes a change, and has no fault. If false, nothing has changed.
     fn go_on_plain(&mut self, alloc: Global, line: &[u8]) -> bool
         requires { (is_within (standing self.old.draft).place && bytes_eq line.now (codes "end")) ≡ false }
         ensures made { result ≡ true → judge_inner true (bundle_standing self.old) line.now ≡ Ok (bundle_standing self.new) }
@@ -616,7 +617,7 @@ impl BundleDraft {
         self.draft.take_plain(alloc, schema, &mut self.names, line)
     }
 
-    /// Takes a plain line of the open channel's journal. With false all is left as it was.
+    /// Takes a plain line of the open channel's journal. If false, nothing has changed.
     fn take_plain_inside(&mut self, alloc: Global, line: &[u8]) -> Result<bool, AllocError>
         ensures line { TakesPlain result (judge_inner true (bundle_standing self.old) line.now) (bundle_standing self.old) (bundle_standing self.new) }
         ensures room { (IsInEntry (standing self.old.draft) → self.old.version ≡ One) → IsLeftWhereFull IsFullBundle result (judge_inner true (bundle_standing self.old) line.now) }
@@ -628,7 +629,8 @@ impl BundleDraft {
     }
 
     #[tactic(auto, unfolding(crate::specs::BundleStates::judge_bundle))]
-    /// Takes the next line, where it is a plain one: it begins an entry, writes a change or ends an entry of version 1, and has no fault. With false all is left as it was.
+    /// Takes the next line if it is a plain one: it begins an entry, writes a change or ends an entry of version 1, and has no fault. If
+    /// false, nothing has changed.
     pub fn take_plain(&mut self, alloc: Global, line: &[u8]) -> Result<bool, AllocError>
         ensures line { TakesPlain result (judge_bundle (bundle_standing self.old) line.now) (bundle_standing self.old) (bundle_standing self.new) }
         ensures room { CountsFirst (bundle_standing self.old) → IsLeftWhereFull IsFullBundle result (judge_bundle (bundle_standing self.old) line.now) }
@@ -663,7 +665,7 @@ impl BundleDraft {
         self.take_line(alloc, line)
     }
 
-    /// Takes the lines of a whole entry of the open channel's journal, where nothing is wrong with them. With false all is left as it was.
+    /// Takes the lines of a whole entry of the open channel's journal, if nothing is wrong with them. If false, nothing has changed.
     pub fn take_entry(&mut self, entry: ParsedEntry<'_>) -> Result<bool, AllocError>
         ensures { TakesText judge_bundle result entry.entry.text (length entry.entry.changes + 2) (bundle_standing self.old) (bundle_standing self.new) }
     {

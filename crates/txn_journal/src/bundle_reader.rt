@@ -1,11 +1,11 @@
 //! The reader of bundles.
-ghost use Rattle.std.specs.Prelude.{◌≡◌, ◌++◌, ℕ, List, None, Some, IfOk, IfErr};
+ghost use Rattle.std.specs.Prelude.{◌≡◌, None, Some, IfOk, IfErr};
 ghost use Rattle.txn_journal.specs.BundleStates.{BundleStanding, BundleValue};
 ghost use Rattle.txn_journal.specs.BundleText.{WritesBundleBy, WritesBundle};
-ghost use Rattle.txn_journal.specs.Stream.{Progress, IsWhole, IsWholeOr, IsRead};
+ghost use Rattle.txn_journal.specs.Stream.{IsWhole, IsWholeOr, IsRead};
 ghost use Rattle.txn_journal.specs.BundleRefused.{RefusesBundleBy, RefusesBundle};
 ghost use Rattle.txn_journal.specs.declared.lines.Version.TheVariants.{One};
-ghost use Rattle.txn_journal.specs.BundleReading.{bundle_start, IsFaultOfBundle, feed_bundle_bytes, closing_bundle};
+ghost use Rattle.txn_journal.specs.BundleReading.{bundle_start, IsFaultOfBundle, feed_bundle_bytes, closing_bundle, AnyCutOfBundles};
 
 use crate::bundle::Bundle;
 use crate::bundle_draft::BundleDraft;
@@ -157,7 +157,7 @@ impl BundleReader {
         ensures next { FeedsBy (bundles None) (bundle_reading self.old) piece.now (bundle_reading self.new) }
         ensures stays { StaysStopped (bundle_reading self.old) (bundle_reading self.new) }
         ensures answer { result ≡ answer (bundle_reading self.new) }
-        // In version 1 a line that ends an entry, and is the first of the piece, is refused for too many sources whatever memory there is.
+        // In version 1 a line that ends an entry and is the first of its piece is refused for too many sources, whatever memory there is.
         ensures room { NamesSources CountsFirst IsFullBundle judge_bundle (bundle_reading self.old) piece.now result }
     {
         self.feed.feed(alloc, piece)
@@ -185,7 +185,7 @@ impl BundleReader {
         }
     }
 
-    /// The bundle, where its last line has come.
+    /// The bundle, if its last line has come.
     #[tactic(auto, unfolding(crate::specs::Formats::closing_by))]
     pub fn finish(self) -> Result<Bundle, JournalFault>
         ensures { result ≡ closing_bundle (bundle_reading self) }
@@ -235,7 +235,7 @@ pub fn decode_bundle_v1(alloc: Global, bytes: &[u8]) -> Result<Bundle, JournalFa
     read_bundle(alloc, Some(Version::One), bytes)
 }
 
-/// A bundle's text is read alike however it is cut.
+/// A bundle's text is read the same, however it is cut into pieces.
 pub fn any_cut_of_bundles()
-    ensures { (p : Progress BundleStanding) (front back : List ℕ) → feed_bundle_bytes p (front ++ back) ≡ feed_bundle_bytes (feed_bundle_bytes p front) back }
+    ensures { AnyCutOfBundles }
 {}

@@ -7,13 +7,13 @@ ghost use Rattle.txn_journal.specs.Machine.{is_row_of, are_rows_of, fits};
 ghost use Rattle.journal.specs.Writing.{is_number};
 ghost use Rattle.txn_journal.specs.Kept.{IsSeen, IsOpenNew, AreWritable};
 ghost use Rattle.txn_journal.specs.Due.{is_due};
-ghost use Rattle.txn_journal.specs.declared.lines.Place.TheVariants.{Between, Within};
+ghost use Rattle.txn_journal.specs.declared.lines.LinePlace.TheVariants.{Between, Within};
 ghost use Rattle.txn_journal.specs.declared.lines.Keyword.TheVariants.{Ins, Upd, Del};
 ghost use Rattle.txn_journal.specs.declared.fault.Cause.{Cause};
 
 use crate::fault::{Cause, LineFault};
 use crate::images::{find_image, find_images, find_table, image, table_at, two_images};
-use crate::lines::{Keyword, Place, Version, keyword_at};
+use crate::lines::{Keyword, LinePlace, Version, keyword_at};
 use crate::names::Names;
 use crate::numbers::{NearSources, beginning_at};
 use crate::timestamped_journal::TimestampedJournal;
@@ -35,16 +35,16 @@ pub const MAX_ENTRIES: u64 = 4_294_967_294;
 /// A journal as far as its lines have come.
 #[derive(Drop)]
 pub struct Draft {
-    place: Place,
-    /// The version that is due, or none where each known one is.
+    place: LinePlace,
+    /// The version that is due, or none if any known one is.
     due: Option<Version>,
     version: Version,
     journal: Journal,
     /// The last_committed of each entry of the journal; 0 in version 1, which writes none.
     stamps: Vec<u64>,
-    /// The previous set with the GTIDs of all entries, those that were taken too.
+    /// The previous set with the GTIDs of all entries, including those that were taken.
     seen: GtidSet,
-    /// How many entries have come, those that were taken too.
+    /// How many entries have come, including those that were taken.
     count: u64,
     /// The sources of the last GTIDs.
     near: NearSources,
@@ -58,7 +58,7 @@ pub struct Draft {
     ghost few: { count ≤ 4294967294 },
 }
 
-/// The version that a header names, where it is known.
+/// The version that a header names, if it is known.
 pub fn version_in(due: Option<Version>, rest: Option<&[u8]>) -> Result<Version, LineFault>
     ensures { Finds (λ v. v) result (version_in due (option_map (λ r. r.now) rest.entry)) }
 {
@@ -98,7 +98,7 @@ fn are_rows_of(table: &Table, change: &Change) -> bool
     }
 }
 
-/// Whether the schema, where there is one, takes the images of a change.
+/// Whether the schema, if there is one, takes the images of a change.
 #[inline(always)]
 fn fits(schema: Option<&Schema>, change: &Change) -> bool
     ensures { result ≡ fits (option_map (λ tables. tables.now) schema.entry) change.now }
@@ -119,11 +119,11 @@ fn fit_all(schema: &Schema, changes: &[Change]) -> bool
     changes.iter().all(|change| fits(Some(schema), change))
 }
 
-/// So many changes, at most, have room before they come.
+/// The most changes for which room is made before they come.
 const MOST_ROOM: usize = 64;
 
-/// All changes, which are taken away. Where there is one, the room stays for those that come next; where there are more, those that come
-/// next have room for as many.
+/// Takes all changes out of the list. If it was one, its room stays for those that come next; if there were more, those that come next have
+/// room for as many.
 pub fn take_changes(alloc: Global, changes: &mut Vec<Change>) -> Result<Changes, AllocError>
     ensures changes { IfOk result (λ it. it ≡ changes.old.items) }
     ensures left { changes.new.items ≡ [] }
@@ -135,7 +135,7 @@ pub fn take_changes(alloc: Global, changes: &mut Vec<Change>) -> Result<Changes,
     }
     let room = changes.len().min(MOST_ROOM);
     let taken = mem::replace(changes, Vec::new(alloc));
-    // (a guess, which may be refused)
+    // (a guess, for which there may be no memory)
     let _ = changes.reserve(room);
     Changes::new(taken)
 }
@@ -160,7 +160,7 @@ impl Draft {
         ensures { standing result ≡ empty due }
     {
         Draft {
-            place: Place::Header,
+            place: LinePlace::Header,
             due,
             version: Version::One,
             journal: Journal::start(alloc, GtidSet::empty(alloc)),
@@ -181,7 +181,7 @@ impl Draft {
     pub fn is_ended(&self) -> bool
         ensures { result ≡ is_last (standing self.now).place }
     {
-        self.place == Place::Ended
+        self.place == LinePlace::Ended
     }
 
     /// The entries that were not taken yet.
@@ -334,7 +334,7 @@ impl Draft {
         match version_in(self.due, rest) {
             Ok(version) => {
                 self.version = version;
-                self.place = Place::Previous;
+                self.place = LinePlace::Previous;
                 Ok(())
             }
             Err(fault) => Err(fault),
@@ -355,7 +355,7 @@ impl Draft {
         };
         self.seen = previous.copy(alloc)?;
         self.journal = Journal::start(alloc, previous);
-        self.place = Place::Between;
+        self.place = LinePlace::Between;
         Ok(())
     }
 
@@ -381,7 +381,7 @@ impl Draft {
         }
         self.gtid = gtid;
         self.stamp = stamp;
-        self.place = Place::Within;
+        self.place = LinePlace::Within;
         Ok(())
     }
 
@@ -422,14 +422,14 @@ impl Draft {
     pub fn ends_entry(&self, line: &[u8]) -> bool
         ensures { result ≡ (is_within (standing self.now).place && bytes_eq line.now (codes "end")) }
     {
-        self.place == Place::Within && line == b"end".as_slice()
+        self.place == LinePlace::Within && line == b"end".as_slice()
     }
 
     /// Whether an entry is open.
     pub fn is_within(&self) -> bool
         ensures { result ≡ is_within (standing self.now).place }
     {
-        self.place == Place::Within
+        self.place == LinePlace::Within
     }
 
     /// Whether the lines before the first entry have come.
@@ -437,8 +437,8 @@ impl Draft {
         ensures { result ≡ has_begun (standing self.now).place }
     {
         match self.place {
-            Place::Header | Place::Previous => false,
-            Place::Between | Place::Within | Place::Ended => true,
+            LinePlace::Header | LinePlace::Previous => false,
+            LinePlace::Between | LinePlace::Within | LinePlace::Ended => true,
         }
     }
 
@@ -503,7 +503,7 @@ impl Draft {
         ensures line { TakesLine IsFull result (Ok (join_entry (standing self.old) entry)) (standing self.new) }
         ensures room { IsRefusedWhereFull IsFull result (Ok (join_entry (standing self.old) entry)) }
     {
-        self.place = Place::Between;
+        self.place = LinePlace::Between;
         self.seen.add(entry.gtid)?;
         self.journal.push(entry)?;
         self.stamps.push(self.stamp)?;
@@ -512,7 +512,7 @@ impl Draft {
     }
 
     #[tactic(auto, unfolding(crate::specs::Machine::txn_line, crate::specs::Machine::begin))]
-    /// Begins an entry of version 1, where its source is near and nothing is wrong with it. With false all is left as it was.
+    /// Begins an entry of version 1, if its source is near and nothing is wrong with it. If false, nothing has changed.
     fn begin_plain(&mut self, word: &[u8]) -> bool
         requires { self.old.place ≡ Between }
         ensures made { result ≡ true → txn_line (standing self.old) (Some word.now) ≡ Ok (standing self.new) }
@@ -530,12 +530,12 @@ impl Draft {
         }
         self.gtid = gtid;
         self.stamp = 0;
-        self.place = Place::Within;
+        self.place = LinePlace::Within;
         true
     }
 
     #[tactic(auto, unfolding(crate::specs::Machine::add))]
-    /// Adds a change to the entry that is open, where nothing is wrong with it. With false all is left as it was.
+    /// Adds a change to the entry that is open, if nothing is wrong with it. If false, nothing has changed.
     #[inline(always)]
     fn add_plain(&mut self, schema: &Schema, change: Change) -> bool
         ensures made { result ≡ true → add (Some schema.now) (standing self.old) change ≡ Ok (standing self.new) }
@@ -555,7 +555,7 @@ impl Draft {
     }
 
     #[tactic(auto, unfolding(crate::specs::Machine::step))]
-    /// Takes the rest of the line of a new row, where nothing is wrong with it. With false all is left as it was.
+    /// Takes the rest of the line of a new row, if nothing is wrong with it. If false, nothing has changed.
     #[inline(never)]
     fn insert_plain(
         &mut self,
@@ -631,8 +631,8 @@ impl Draft {
     }
 
     #[tactic(auto, unfolding(crate::specs::Machine::judge, crate::specs::Machine::step))]
-    /// Takes a line between two entries, where it begins one and nothing is wrong with it. With false all is left as it was. (`schema` is
-    /// read by the clauses alone.)
+    /// Takes a line between two entries, if it begins one and nothing is wrong with it. If false, nothing has changed. (`schema` is read by
+    /// the clauses alone.)
     fn take_between(&mut self, schema: &Schema, line: &[u8]) -> bool
         requires { self.old.place ≡ Between }
         ensures made { result ≡ true → judge (Some schema.now) (standing self.old) line.now ≡ Ok (standing self.new) }
@@ -646,7 +646,7 @@ impl Draft {
     }
 
     #[tactic(auto, unfolding(crate::specs::Machine::judge))]
-    /// Takes a line within an entry, where it writes a change and nothing is wrong with it. With false all is left as it was.
+    /// Takes a line within an entry, if it writes a change and nothing is wrong with it. If false, nothing has changed.
     fn take_within(
         &mut self,
         alloc: Global,
@@ -667,7 +667,7 @@ impl Draft {
         }
     }
 
-    /// Takes a line that begins an entry or writes a change, where nothing is wrong with it. With false all is left as it was.
+    /// Takes a line that begins an entry or writes a change, if nothing is wrong with it. If false, nothing has changed.
     pub fn take_plain(
         &mut self,
         alloc: Global,
@@ -680,13 +680,13 @@ impl Draft {
         ensures left { result ≡ false → standing self.new ≡ standing self.old }
     {
         match self.place {
-            Place::Between => self.take_between(schema, line),
-            Place::Within => self.take_within(alloc, schema, names, line),
-            Place::Header | Place::Previous | Place::Ended => false,
+            LinePlace::Between => self.take_between(schema, line),
+            LinePlace::Within => self.take_within(alloc, schema, names, line),
+            LinePlace::Header | LinePlace::Previous | LinePlace::Ended => false,
         }
     }
 
-    /// Ends the entry that is open, where its GTID can be added to what was seen. With false all is left as it was.
+    /// Ends the entry that is open, if its GTID can be added to what was seen. If false, nothing has changed.
     pub fn end_plain(&mut self, alloc: Global) -> Result<bool, AllocError>
         requires { (standing self.old).place ≡ Within }
         ensures { TakesPlain result (Ok (close_entry (standing self.old))) (standing self.old) (standing self.new) }
@@ -694,7 +694,7 @@ impl Draft {
         let Ok(()) = self.seen.add(self.gtid) else {
             return Ok(false);
         };
-        self.place = Place::Between;
+        self.place = LinePlace::Between;
         let changes = self.take_changes(alloc)?;
         self.journal.push(Entry {
             gtid: self.gtid,
@@ -705,7 +705,7 @@ impl Draft {
         Ok(true)
     }
 
-    /// Adds a whole entry of version 1, whose lines were read beforehand, where nothing is wrong with it. With false all is left as it was.
+    /// Adds a whole entry of version 1, whose lines were read beforehand, if nothing is wrong with it. If false, nothing has changed.
     pub fn join_whole(
         &mut self,
         schema: &Schema,
@@ -736,7 +736,7 @@ impl Draft {
     fn may_follow(&self, schema: &Schema, gtid: &Gtid, changes: &Changes) -> bool
         ensures { result ≡ true → MayFollow schema.now (standing self.now) gtid.now changes.now }
     {
-        if self.place != Place::Between
+        if self.place != LinePlace::Between
             || self.version != Version::One
             || !self.changes.is_empty()
         {
@@ -756,7 +756,7 @@ impl Draft {
         if rest.is_some() {
             return Err(LineFault::Wrong(Cause::Body));
         }
-        self.place = Place::Ended;
+        self.place = LinePlace::Ended;
         Ok(())
     }
 }

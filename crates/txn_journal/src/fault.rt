@@ -9,7 +9,7 @@ use gtid_text::Gtid;
 use std::alloc::{AllocError, AllocFailed};
 use thiserror::Error;
 
-/// What is wrong with a line. Where several are, the first in the order of this list is named (our own rule).
+/// What is wrong with a line. If several causes hold, the first in the order of this list is named (our own rule).
 #[derive(Clone, Copy, Debug, PartialEq, Eq)]
 pub enum Cause {
     /// A version that is not known.
@@ -22,7 +22,7 @@ pub enum Cause {
     Limit,
     /// The schema of the bundle does not allow the line.
     Schema,
-    /// The sequence number of an entry is not its place, or its last_committed is not that which it has to have.
+    /// The sequence number of an entry is not its place, or its last_committed is not the one that it has to have.
     Stamp,
     /// The GTID is in the previous set, or came before in the same journal.
     Twice(Gtid),
@@ -31,7 +31,7 @@ pub enum Cause {
 /// Why a text is not read. Lines count from 1.
 #[derive(Clone, Copy, Debug, PartialEq, Eq, Error)]
 pub enum JournalFault {
-    /// Memory was refused, or a set is full.
+    /// Out of memory, or a set is full.
     #[error("{0}")]
     Set(SetFault),
     /// The first faulty line, and what is wrong with it.

@@ -34,7 +34,7 @@ pub trait TakeLine {
     // A set of what the lines have made has too many sources or intervals: by this fault.
     ghost full: { SetFault → Self → Type 0 };
 
-    // At this point sources are counted before memory is asked for.
+    // At this point the sources are counted before any allocation.
     ghost counts: { Self → Type 0 };
 
     /// Takes the next line, or returns its first fault.
@@ -42,20 +42,20 @@ pub trait TakeLine {
         ensures line { TakesLine full result (judge self.old line.now) self.new }
         ensures room { counts self.old → IsRefusedWhereFull full result (judge self.old line.now) };
 
-    /// Takes the next line, where it is a plain one: most are, and nothing is wrong with it. With false all is left as it was.
+    /// Takes the next line if it is a plain one (most are) and nothing is wrong with it. If false, nothing has changed.
     fn take_plain(&mut self, alloc: Global, line: &[u8]) -> Result<bool, AllocError>
         ensures line { TakesPlain result (judge self.old line.now) self.old self.new }
         ensures room { counts self.old → IsLeftWhereFull full result (judge self.old line.now) };
 }
 
-/// What takes lines of changes and entries that were read beforehand, too.
+/// What also takes lines of changes, and entries, that were read beforehand.
 pub trait TakeChange: TakeLine {
     /// Takes the next line, which writes this change, or returns its first fault.
     fn take_change(&mut self, alloc: Global, line: &[u8], change: Change) -> Result<(), LineFault>
         requires { change_in line.now ≡ Ok change }
         ensures { TakesLine Self.full result (Self.judge self.old line.now) self.new };
 
-    /// Takes the lines of a whole entry, where nothing is wrong with them. With false all is left as it was.
+    /// Takes the lines of a whole entry, if nothing is wrong with them. If false, nothing has changed.
     fn take_entry(&mut self, alloc: Global, entry: ParsedEntry<'_>) -> Result<bool, AllocError>
         ensures { TakesText Self.judge result entry.entry.text (length entry.entry.changes + 2) self.old self.new };
 }
@@ -169,7 +169,7 @@ impl<T: TakeLine> Feed<T> {
         }
     }
 
-    /// Takes the line whose last bytes are these. A plain one is taken at once, where none of its bytes came before.
+    /// Takes the line whose last bytes are these. A plain one is taken at once if none of its bytes came before.
     #[inline(always)]
     fn take_next(&mut self, alloc: Global, bytes: &[u8]) -> Result<(), JournalFault>
         requires goes { self.old.stopped ≡ None }
@@ -277,7 +277,7 @@ impl<T: TakeChange> Feed<T> {
         }
     }
 
-    /// The number of an entry's last line, where that can be counted and no byte of its first line came before.
+    /// The number of an entry's last line, if that can be counted and no byte of its first line came before.
     fn last_number(&self, entry: &ParsedEntry<'_>) -> Option<u64>
         ensures first { IfSome result (λ number. self.now.rest.items ≡ []) }
         ensures number { IfSome result (λ number. number ≡ self.now.lines + (length entry.now.changes + 2)) }
@@ -305,7 +305,7 @@ impl<T: TakeChange> Feed<T> {
         self.take_piece(alloc, text)
     }
 
-    /// Takes a line, and the change that it writes, where that was read.
+    /// Takes a line, and the change that it writes if that was read.
     fn take_either(
         &mut self,
         alloc: Global,

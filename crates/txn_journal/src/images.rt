@@ -21,7 +21,7 @@ pub fn image(alloc: Global, text: &[u8]) -> Result<Row, LineFault>
     }
 }
 
-/// The image that a text has, where it has one and there is memory for it.
+/// The image that a text has, if it has one and there is memory for it.
 #[inline(always)]
 pub fn find_image(alloc: Global, text: &[u8]) -> Option<Row>
     ensures { IfSome result (λ row. image_in text.now ≡ Ok row) }
@@ -32,7 +32,7 @@ pub fn find_image(alloc: Global, text: &[u8]) -> Option<Row>
     found
 }
 
-/// The two images that a text has, with a bar between, where there is memory for them.
+/// The two images that a text has, with a bar between, if it has them and there is memory for them.
 pub fn find_images(alloc: Global, text: &[u8]) -> Option<(Row, Row)>
     ensures { IfSome result (λ rows. images_in text.now ≡ Ok (rows.0, rows.1)) }
 {
@@ -48,7 +48,7 @@ pub fn find_images(alloc: Global, text: &[u8]) -> Option<(Row, Row)>
     Some((before, after))
 }
 
-/// The table's name at the start of a line's rest, and what follows it, where both are there and there is memory.
+/// The table's name at the start of a line's rest, and what follows it, if both are there and there is memory.
 pub fn find_table<'a>(names: &mut Names, alloc: Global, rest: &'a [u8]) -> Option<(Name, &'a [u8])>
     ensures { IfSome result (λ found. table_in (Some rest.now) ≡ Ok (found.0, found.1.now)) }
 {
@@ -62,7 +62,7 @@ pub fn find_table<'a>(names: &mut Names, alloc: Global, rest: &'a [u8]) -> Optio
     }
 }
 
-/// What comes before and after the first bar, where there is a blank on either side of it.
+/// What comes before and after the first bar, if there is a blank on either side of it.
 fn around_bar(text: &[u8]) -> Option<(&[u8], &[u8])>
     ensures some { IfSome result (λ r. IsAroundBar text.now r.0.now r.1.now) }
     ensures none { IfNone result ((before after : List ℕ) → IsAroundBar text.now before after → ⊥) }

@@ -1,5 +1,5 @@
 //! Laws of journals' texts.
-ghost use Rattle.std.specs.Prelude.{◌≡◌, ◌++◌, ℕ, List, None, Some};
+ghost use Rattle.std.specs.Prelude.{◌≡◌, ℕ, List, None, Some};
 ghost use Rattle.rows.specs.Apply.{Rows};
 ghost use Rattle.rows.specs.Listing.{rows_listed};
 ghost use Rattle.rows.specs.declared.change.TableRow.{TableRow};
@@ -7,15 +7,14 @@ ghost use Rattle.rows.specs.declared.schema.Table.{Table};
 ghost use Rattle.journal.specs.Journals.{JournalValue};
 ghost use Rattle.txn_journal.specs.Machine.{Standing};
 ghost use Rattle.txn_journal.specs.Stream.{Progress};
-ghost use Rattle.txn_journal.specs.Reading.{Stamped, stamped_of, without_entries, behind_entries, closing, WrittenJournal, IsWrittenAs, with_front, HasBegun, FeedsBehind};
+ghost use Rattle.txn_journal.specs.Reading.{Stamped, stamped_of, without_entries, behind_entries, closing, WrittenJournal, IsWrittenAs, HasBegun, FeedsBehind, EndsBehind};
 ghost use Rattle.txn_journal.specs.Spelling.{IsWritten, WritesAs, Writes};
 ghost use Rattle.txn_journal.specs.Timestamped.{with_timestamps, HasText, IsReadBack};
-ghost use Rattle.txn_journal.specs.declared.lines.Version.{Version};
 ghost use Rattle.txn_journal.specs.declared.lines.Version.TheVariants.{One, Two};
 ghost use Rattle.txn_journal.specs.BundleStates.{BundleValue};
 ghost use Rattle.txn_journal.specs.BundleReading.{IsReadAs};
-ghost use Rattle.txn_journal.specs.BundleText.{AreOpening, WritesBundleAs, WritesBundleBy, WritesBundle, upgrade_of};
-ghost use Rattle.txn_journal.specs.RowOrders.{DifferInOrder};
+ghost use Rattle.txn_journal.specs.BundleText.{AreOpening, WritesBundleBy, WritesBundle, upgrade_of, UpgradeHasText};
+ghost use Rattle.txn_journal.specs.RowOrders.{TextsDifferInOrder};
 
 /// A journal has one text in version 1, and in version 2 one with its numbers; and a text is that of one journal at most, with its version and numbers.
 pub fn one_spelling()
@@ -29,13 +28,13 @@ pub fn one_spelling()
 pub fn taken_in_front()
     ensures taken { (p : Progress Standing) → behind_entries (stamped_of p) (without_entries p) ≡ p }
     ensures feed_bytes { (front : Stamped) (p : Progress Standing) (bytes : List ℕ) → HasBegun p → FeedsBehind front p bytes }
-    ensures closing { (front : Stamped) (p : Progress Standing) → closing (behind_entries front p) ≡ with_front front.entries (closing p) }
+    ensures closing { EndsBehind }
 {}
 
 /// A text is that of one bundle at most, and two texts of a bundle by one version differ in the order of its `row` lines at most.
 pub fn one_bundle()
     ensures bundle { (bytes : List ℕ) (a b : BundleValue) → WritesBundle bytes a → WritesBundle bytes b → a ≡ b }
-    ensures text { (v : Version) (b : BundleValue) (x y : List ℕ) → WritesBundleAs v x b → WritesBundleAs v y b → DifferInOrder v b x y }
+    ensures text { TextsDifferInOrder }
 {}
 
 /// Rows put in listed order give the same rows.
@@ -45,12 +44,11 @@ pub fn rows_in_listed_order()
 
 /// A bundle of version 1 has a text by version 2, which is read as the same bundle.
 pub fn upgrade_keeps_bundle()
-    ensures text { (bytes : List ℕ) (b : BundleValue) → WritesBundleBy (Some One) bytes b → WritesBundleBy (Some Two) (upgrade_of b) b }
+    ensures text { UpgradeHasText }
     ensures read { (bytes : List ℕ) (b : BundleValue) → WritesBundleBy (Some One) bytes b → IsReadAs (upgrade_of b) b }
 {}
 
-/// What `encode_v2` writes of a journal, where these are its tables, `decode_v2` reads as that journal with the last_committed that
-/// its keys give.
+/// What `encode_v2` writes of a journal over these tables, `decode_v2` reads as that journal with the last_committed that its keys give.
 pub fn timestamped_read_back()
     ensures text { (tables : List Table) (j : JournalValue) → IsWritten j → HasText (with_timestamps tables j) }
     ensures read { (tables : List Table) (j : JournalValue) → IsWritten j → IsReadBack (with_timestamps tables j) }

@@ -7,22 +7,21 @@
 //! as `feed` takes its text. A whole entry of version 1 with nothing wrong is taken at once: what its lines make one after another is a law.
 //!
 //! What a contract sees: a `Journal` is a previous set and a list of entries; a `Reader` is how far a text has come, what its whole lines
-//! have made, or the fault at which it stopped. A grammar defines which lines write a value (`Writes`, `WritesBundle`). A text is read
-//! exactly where it writes one (`found`, `only`), and a refusal names the first line with which no text begins, and its cause
-//! (`refused`); `exact` states the same by the fold over bytes, so pieces make no difference (`any_cut`). After a fault every later call
-//! gives that fault. A text has one value (`one_spelling`, `one_bundle`). A line that makes a set with too many
-//! sources is refused for them, whatever memory there is, where it is the first of its piece, but for the end of an entry in a bundle of
-//! version 2 (`room` of `feed`).
+//! have made, or the fault at which it stopped. A grammar defines which lines write a value (`Writes`, `WritesBundle`). A text is read if
+//! and only if it writes one (`found`, `only`), and a refusal names the first line with which no text begins, and its cause (`refused`);
+//! `exact` states the same by the fold over bytes, so pieces make no difference (`any_cut`). After a fault every later call gives that
+//! fault. A text has one value (`one_spelling`, `one_bundle`). A line that makes a set with too many sources is refused for them, whatever
+//! memory there is, if it is the first of its piece and not the end of an entry in a bundle of version 2 (`room` of `feed`).
 //!
 //! What is written is a text of its value by the grammar (`writes`). For a bundle this always holds: its type keeps what the grammar
-//! requires (`Bundle::keeps_rules`). For a journal it holds where it has at most `MAX_ENTRIES` entries, the one limit of a text that the
-//! type `Journal` doesn't keep. What was read has no more, nor have a bundle's journals (`IsWritten`).
+//! requires (`Bundle::keeps_rules`). For a journal it holds if it has at most `MAX_ENTRIES` entries, the one limit of a text that the type
+//! `Journal` doesn't keep. What was read has no more, nor have a bundle's journals (`IsWritten`).
 //!
 //! One theory serves journals and bundles: a record `Format` has the content of lines, the judge of lines and the last line, and both
 //! formats are values of it (`specs/Formats`). Version 2 is another judge and no other theory.
 //!
 //! Not proved: speed. Measured on 2026-11-27, a bundle of transactions of one row takes 2,200 instructions an entry (173 bytes). By the
-//! code a reader is linear in its text: a line is copied only where it comes in more than one piece.
+//! code a reader is linear in its text: a line is copied only if it comes in more than one piece.
 #![tactic(auto)]
 
 mod bundle;

@@ -11,7 +11,7 @@ pub enum Version {
 
 /// Where in a journal the next line is.
 #[derive(Clone, Copy, Debug, PartialEq, Eq)]
-pub enum Place {
+pub enum LinePlace {
     Header,
     Previous,
     Between,
@@ -57,7 +57,7 @@ pub fn keyword_at(word: &[u8]) -> Option<Keyword>
     }
 }
 
-impl Place {
+impl LinePlace {
     ghost use Rattle.txn_journal.specs.Due.{is_due};
 
     /// Whether a line of this keyword is allowed here.
@@ -65,14 +65,14 @@ impl Place {
         ensures { result ≡ is_due self keyword }
     {
         match self {
-            Place::Header => matches!(keyword, Keyword::Journal),
-            Place::Previous => matches!(keyword, Keyword::Previous),
-            Place::Between => matches!(keyword, Keyword::Txn | Keyword::Close),
-            Place::Within => matches!(
+            LinePlace::Header => matches!(keyword, Keyword::Journal),
+            LinePlace::Previous => matches!(keyword, Keyword::Previous),
+            LinePlace::Between => matches!(keyword, Keyword::Txn | Keyword::Close),
+            LinePlace::Within => matches!(
                 keyword,
                 Keyword::Ins | Keyword::Upd | Keyword::Del | Keyword::End
             ),
-            Place::Ended => false,
+            LinePlace::Ended => false,
         }
     }
 }

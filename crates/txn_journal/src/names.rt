@@ -36,7 +36,7 @@ fn place_of(names: &[Name], word: &[u8]) -> Result<usize, usize>
     names.binary_search_by(|name| name.as_str().as_bytes().cmp(word))
 }
 
-/// The name at a place, where the word is that name.
+/// The name at a place, if the word is that name.
 fn name_at<'a>(names: &'a [Name], place: usize, word: &[u8]) -> Option<&'a Name>
     ensures { IfSome result (λ name. name_of word.now ≡ Some name.now) }
 {

@@ -31,12 +31,12 @@ struct Numbers<'a> {
 #[derive(Clone, Copy, Debug)]
 pub struct Beginning {
     pub gtid: Gtid,
-    /// The last_committed, where its numbers are allowed there; 0 in version 1, which writes none.
+    /// The last_committed, if its numbers are allowed there; 0 in version 1, which writes none.
     pub stamp: Option<u64>,
 }
 
 impl Numbers<'_> {
-    /// The last_committed, where these may be at a place, counted from 1.
+    /// The last_committed, if these numbers may be at a place, counted from 1.
     fn stamp(&self, place: u64) -> Option<u64>
         ensures { result ≡ stamp_in place (Some (numbers_value self.now)) }
     {
@@ -76,7 +76,7 @@ impl SourceText {
         })
     }
 
-    /// The GTID of this source that the word parses as, where it does.
+    /// The GTID of this source that the word parses as, if it does.
     fn gtid_in(&self, word: &[u8]) -> Option<Gtid>
         ensures { IfSome result (λ gtid. gtid_of_word word.now ≡ Some gtid) }
     {
@@ -101,7 +101,7 @@ impl SourceText {
     }
 }
 
-/// So many sources are kept.
+/// How many sources are kept.
 const KEPT: usize = 16;
 
 /// Sources of the last GTIDs, with their texts. GTIDs of few sources often follow one another, as in the relay log of a replica.
@@ -142,7 +142,7 @@ impl NearSources {
         }
     }
 
-    /// The GTID of the last source that the word parses as, where it does.
+    /// The GTID of the last source that the word parses as, if it does.
     fn last_gtid_in(&self, word: &[u8]) -> Option<Gtid>
         ensures { IfSome result (λ gtid. gtid_of_word word.now ≡ Some gtid) }
     {
@@ -150,7 +150,7 @@ impl NearSources {
         source.gtid_in(word)
     }
 
-    /// The GTID that the word parses as, where its source is one of these.
+    /// The GTID that the word parses as, if its source is one of these.
     pub fn find(&mut self, word: &[u8]) -> Option<Gtid>
         ensures { IfSome result (λ gtid. gtid_of_word word.now ≡ Some gtid) }
     {
@@ -160,7 +160,7 @@ impl NearSources {
         }
     }
 
-    /// The GTID of one of the sources that the word parses as, where it does.
+    /// The GTID of one of the sources that the word parses as, if it does.
     fn gtid_in(&mut self, word: &[u8]) -> Option<Gtid>
         ensures { IfSome result (λ gtid. gtid_of_word word.now ≡ Some gtid) }
     {
@@ -169,7 +169,7 @@ impl NearSources {
         Some(gtid)
     }
 
-    /// Keeps a source, in the place of one that was kept where there are many.
+    /// Keeps a source; if many are kept, it replaces one of them.
     fn keep(&mut self, source: SourceText) -> Result<(), AllocError> {
         let count = self.kept.len();
         if count < KEPT {
@@ -186,7 +186,7 @@ impl NearSources {
     }
 }
 
-/// The GTID that the word parses as. It is looked for among those of the sources that are near first; its own source is near then.
+/// The GTID that the word parses as. The sources that are near are tried first; the GTID's own source is near afterwards.
 pub fn gtid_in(alloc: Global, near: &mut NearSources, word: &[u8]) -> Result<Gtid, LineFault>
     ensures { Finds (λ g. g) result (some_or_body (gtid_of_word word.now)) }
 {

@@ -70,7 +70,7 @@ impl OpenBundle {
         self.journals = Vec::new(alloc);
     }
 
-    /// Adds a channel after the others.
+    /// Appends a channel.
     pub fn add(&mut self, channel: BundleChannel, journal: Journal) -> Result<(), AllocError>
         ensures ok { OnOk result (self.new ≡ record self.old { channels = self.old.channels ++ channel ∷ []; journals = self.old.journals ++ journal ∷ [] }) }
     {

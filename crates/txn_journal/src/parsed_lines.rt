@@ -19,7 +19,7 @@ use std::alloc::{AllocError, Global};
 use std::collections::VecDeque;
 use std::marker::Model;
 
-/// A line, and the change that it writes, where that was read.
+/// A line, and the change that it writes if that was read.
 #[derive(Drop)]
 pub struct ParsedLine<'a> {
     pub line: &'a [u8],
@@ -53,8 +53,8 @@ pub enum ParsedItem<'a> {
     Entry(ParsedEntry<'a>),
 }
 
-/// A piece of text that was cut into whole entries and other lines, each of which has what it writes, where that was read. It is
-/// made on any thread, and fed to a `BundleReader` in its turn.
+/// A piece of text that was cut into whole entries and other lines, each with what it writes if that was read. It is made on any thread,
+/// and fed to a `BundleReader` in its turn.
 #[derive(Drop)]
 pub struct ParsedLines<'a> {
     items: VecDeque<ParsedItem<'a>>,
@@ -102,7 +102,7 @@ fn update_in(names: &mut Names, alloc: Global, rest: &[u8]) -> Result<Change, Li
     })
 }
 
-/// The change that a line writes, or a fault where it writes none.
+/// The change that a line writes, or a fault if it writes none.
 #[tactic(auto, unfolding(crate::specs::ChangeLines::change_in))]
 fn read_change(names: &mut Names, alloc: Global, line: &[u8]) -> Result<Change, LineFault>
     ensures { IfOk result (λ change. change_in line.now ≡ Ok change) }
@@ -115,7 +115,7 @@ fn read_change(names: &mut Names, alloc: Global, line: &[u8]) -> Result<Change, 
     }
 }
 
-/// The change that a line writes, where it writes one.
+/// The change that a line writes, if it writes one.
 fn change_of(names: &mut Names, alloc: Global, line: &[u8]) -> Result<Option<Change>, AllocError>
     ensures { IfOk result (HasChange line.now) }
 {
@@ -140,8 +140,8 @@ fn gtid_at<'a>(alloc: Global, near: &mut NearSources, text: &'a [u8]) -> Option<
     Some((gtid, after))
 }
 
-/// Reads the changes of the lines with which a text begins, up to the line that ends their entry. What follows that line is returned,
-/// where all lines have come and there is nothing wrong with them.
+/// Reads the changes of the lines with which a text begins, up to the line that ends their entry. It returns what follows that line, if all
+/// lines have come and nothing is wrong with them.
 fn changes_at<'a>(
     alloc: Global,
     names: &mut Names,
@@ -170,8 +170,8 @@ fn changes_at<'a>(
     }
 }
 
-/// The entry of version 1 with which a text begins, and what follows it, where all its lines have come, nothing is wrong with them and
-/// there is memory. The list of changes is room for its own.
+/// The entry of version 1 with which a text begins, and what follows it, if all its lines have come, nothing is wrong with them and there
+/// is memory. `changes` is a scratch buffer, reused between calls.
 fn entry_at<'a>(
     alloc: Global,
     names: &mut Names,
@@ -228,8 +228,7 @@ fn front_of<'a>(text: &'a [u8], after: &[u8]) -> &'a [u8]
 impl<'a> ParsedItem<'a> {
     ghost use Rattle.txn_journal.specs.ParsedTexts.{item_text};
 
-    /// The entry or line with which a text begins, and what follows it. There is none where its line has not come whole, or memory was
-    /// refused.
+    /// The entry or line with which a text begins, and what follows it. There is none if its line has not come whole, or if out of memory.
     fn at(
         alloc: Global,
         names: &mut Names,
@@ -280,7 +279,7 @@ impl<'a> ParsedEntry<'a> {
 impl<'a> ParsedLines<'a> {
     ghost use Rattle.txn_journal.specs.ParsedTexts.{text_in};
 
-    /// Cuts a text into entries and lines, and reads what they write. Where memory is refused, what follows is left as it is.
+    /// Cuts a text into entries and lines, and reads what they write. If out of memory, what follows is left as it is.
     pub fn parse(alloc: Global, text: &'a [u8]) -> ParsedLines<'a>
         ensures { result ≡ text.now }
     {

@@ -1,11 +1,11 @@
 //! The reader of journals.
-ghost use Rattle.std.specs.Prelude.{◌≡◌, ◌++◌, ℕ, List, None, Some, Err, IfOk, IfErr};
+ghost use Rattle.std.specs.Prelude.{◌≡◌, None, Some, Err, IfOk, IfErr};
 ghost use Rattle.journal.specs.Journals.{JournalValue};
 ghost use Rattle.txn_journal.specs.Spelling.{Writes};
 ghost use Rattle.txn_journal.specs.Refused.{Refuses};
-ghost use Rattle.txn_journal.specs.Stream.{Progress, IsWhole, IsRead};
+ghost use Rattle.txn_journal.specs.Stream.{IsWhole, IsRead};
 ghost use Rattle.txn_journal.specs.Machine.{Standing};
-ghost use Rattle.txn_journal.specs.Reading.{before_first, feed_journal_bytes, closing};
+ghost use Rattle.txn_journal.specs.Reading.{before_first, feed_journal_bytes, closing, AnyCut};
 ghost use Rattle.txn_journal.specs.Timestamped.{TimestampedValue, WritesTimestamped, RefusesTimestamped, BeginsAsVersionOne, first_line_version, timestamped_start, closing_timestamped};
 
 use crate::draft::Draft;
@@ -129,7 +129,7 @@ impl Reader {
         ensures next { FeedsBy journals (reading self.old) piece.now (reading self.new) }
         ensures stays { StaysStopped (reading self.old) (reading self.new) }
         ensures answer { result ≡ answer (reading self.new) }
-        // A line that ends an entry, and is the first of the piece, is refused for too many sources whatever memory there is.
+        // A line that ends an entry and is the first of its piece is refused for too many sources, whatever memory there is.
         ensures room { NamesSources (λ _. Unit {0}) IsFull (judge None) (reading self.old) piece.now result }
     {
         self.feed.feed(alloc, piece)
@@ -147,7 +147,7 @@ impl Reader {
         }
     }
 
-    /// The journal, where its last line has come, with the entries that were not taken.
+    /// The journal, if its last line has come, with the entries that were not taken.
     #[tactic(auto, unfolding(crate::specs::Formats::closing_by))]
     pub fn finish(self) -> Result<Journal, JournalFault>
         ensures { result ≡ closing (reading self) }
@@ -158,7 +158,7 @@ impl Reader {
         }
     }
 
-    /// The journal, where its last line has come, and the last_committed of each entry.
+    /// The journal, if its last line has come, and the last_committed of each entry.
     #[tactic(auto, unfolding(crate::specs::Formats::closing_by))]
     fn finish_timestamped(self) -> Result<TimestampedJournal, JournalFault>
         ensures { result ≡ closing_timestamped (reading self) }
@@ -211,7 +211,7 @@ pub fn decode_v2(alloc: Global, bytes: &[u8]) -> Result<TimestampedJournal, Jour
     Reader::over(alloc, Some(Version::Two), bytes).finish_timestamped()
 }
 
-/// A text is read alike however it is cut.
+/// A text is read the same, however it is cut into pieces.
 pub fn any_cut()
-    ensures { (p : Progress Standing) (front back : List ℕ) → feed_journal_bytes p (front ++ back) ≡ feed_journal_bytes (feed_journal_bytes p front) back }
+    ensures { AnyCut }
 {}

@@ -171,7 +171,7 @@ fn table_words<'a>(
     })
 }
 
-/// The numbers of columns, where each is below the count.
+/// The numbers of columns, if each is below the limit.
 #[tactic(auto, unfolding(crate::specs::Shapes::numbers_from))]
 fn numbers_below(alloc: Global, limit: u64, words: &[&[u8]]) -> Result<Vec<u32>, LineFault>
     requires { limit ≤ 64 }
@@ -187,7 +187,7 @@ fn numbers_below(alloc: Global, limit: u64, words: &[&[u8]]) -> Result<Vec<u32>,
     Ok(columns)
 }
 
-/// The columns that a text names, where each is below the count.
+/// The columns that a text names, if each is below the limit.
 #[tactic(auto, unfolding(crate::specs::Shapes::columns_in))]
 fn columns_below(alloc: Global, limit: u64, text: &[u8]) -> Result<Columns, LineFault>
     requires { limit ≤ 64 }
@@ -198,7 +198,7 @@ fn columns_below(alloc: Global, limit: u64, text: &[u8]) -> Result<Columns, Line
     Ok(Columns::new(columns)?)
 }
 
-/// The columns of each key, where each is below the count.
+/// The columns of each key, if each is below the limit.
 #[tactic(auto, unfolding(crate::specs::Shapes::keys_from))]
 fn lists_below(alloc: Global, limit: u64, texts: &[&[u8]]) -> Result<Vec<Columns>, LineFault>
     requires { limit ≤ 64 }
@@ -220,7 +220,7 @@ fn keys_below(alloc: Global, limit: u64, texts: &[&[u8]]) -> Result<ColumnLists,
 }
 
 impl TableWords<'_> {
-    /// How many columns the table has, where that is within the limits.
+    /// How many columns the table has, if that is within the limits.
     #[tactic(auto, unfolding(crate::specs::Shapes::width_of))]
     fn columns(&self) -> Result<u64, LineFault>
         ensures found { Finds (λ n. n) result (width_of (shape self.now)) }
@@ -235,7 +235,7 @@ impl TableWords<'_> {
         }
     }
 
-    /// The table of so many columns.
+    /// The table of these words, with this number of columns.
     #[tactic(auto, unfolding(crate::specs::Shapes::table_of))]
     fn table(&self, alloc: Global, columns: u64) -> Result<Table, LineFault>
         requires { columns ≤ 64 }
@@ -252,7 +252,7 @@ impl TableWords<'_> {
     }
 }
 
-/// Adds a table after the others.
+/// Appends a table.
 fn push_table(schema: &mut Schema, table: Table) -> Result<(), LineFault>
     ensures { TakesPart result (after_fault (table_fault schema.old table) (schema.old ++ table ∷ [])) schema.new }
 {
@@ -265,7 +265,7 @@ fn push_table(schema: &mut Schema, table: Table) -> Result<(), LineFault>
     }
 }
 
-/// Adds the table of these words after the others.
+/// Appends the table of these words.
 #[tactic(auto, unfolding(crate::specs::Shapes::with_table))]
 fn add_words(alloc: Global, schema: &mut Schema, words: &TableWords) -> Result<(), LineFault>
     ensures { TakesPart result (with_table schema.old (shape words.now)) schema.new }
@@ -278,7 +278,7 @@ fn add_words(alloc: Global, schema: &mut Schema, words: &TableWords) -> Result<(
     push_table(schema, table)
 }
 
-/// Adds the table that a text parses as after the others.
+/// Appends the table that a text parses as.
 #[tactic(auto, unfolding(crate::specs::Shapes::added_table))]
 pub fn add_table(
     alloc: Global,

@@ -254,7 +254,7 @@ fn write_journal(alloc: Global, journal: &Journal) -> Result<String, AllocError>
 /// The one text of a journal by version 1 of the format: its lines, each ended by one line feed.
 pub fn encode(alloc: Global, journal: &Journal) -> Result<Vec<u8>, AllocError>
     ensures spelled { IfOk result (λ bytes. bytes.items ≡ spelling journal.now) }
-    // It is a text by the grammar, and read back as this journal, where there are at most `MAX_ENTRIES` entries.
+    // It is a text by the grammar, and read back as this journal, if there are at most `MAX_ENTRIES` entries.
     ensures writes { HasFewEntries journal.now → IfOk result (λ bytes. Writes bytes.items journal.now) }
 {
     journal_fits(journal);
@@ -262,7 +262,7 @@ pub fn encode(alloc: Global, journal: &Journal) -> Result<Vec<u8>, AllocError>
     Ok(text.into_bytes())
 }
 
-/// Appends the text of a journal by version 2 of the format, where these are the last_committed of its entries.
+/// Appends the text of a journal by version 2 of the format, with these as the last_committed of its entries.
 #[tactic(auto, using(crate::proofs::WriteLemmas::stamped_journal_text))]
 fn write_stamped(
     alloc: Global,
@@ -294,7 +294,7 @@ pub(crate) fn write_journal_v2(
 /// its last_committed and its sequence number.
 pub fn encode_v2(alloc: Global, schema: &Schema, journal: &Journal) -> Result<Vec<u8>, AllocError>
     ensures spelled { IfOk result (λ bytes. bytes.items ≡ spelling_as Two (right_stamps Two schema.now journal.now.entries) journal.now) }
-    // It is a text by the grammar, and read back as this journal with these numbers, where there are at most `MAX_ENTRIES` entries.
+    // It is a text by the grammar, and read back as this journal with these numbers, if there are at most `MAX_ENTRIES` entries.
     ensures writes { HasFewEntries journal.now → IfOk result (λ b. WritesTimestamped b.items (with_timestamps schema.now journal.now)) }
 {
     journal_fits(journal);

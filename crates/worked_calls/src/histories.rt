@@ -2,7 +2,7 @@
 ghost use Rattle.std.specs.Prelude.{◌≡◌, ◌≤◌};
 
 use crate::calls::{SeatCall, history, is_text, replies};
-use crate::seats::{Ending, ends, has_state};
+use crate::seats::{SeatEnding, ends, has_state};
 use crate::sources::{bundle, first_entries};
 use applier::{NoGate, WorkersEnd, drain, run_workers};
 use commit_ledger::{Blanks, Counts};
@@ -24,7 +24,7 @@ struct Scenario {
     calls: &'static [(usize, SeatCall)],
     /// The reply to each call, a line each.
     replies: &'static str,
-    ending: Ending,
+    ending: SeatEnding,
 }
 
 /// The first seat receives two entries and commits the first; the second seat commits the second.
@@ -49,7 +49,7 @@ Committed(aaaaaaaa-aaaa-aaaa-aaaa-aaaaaaaaaaaa:1)
 Taken(aaaaaaaa-aaaa-aaaa-aaaa-aaaaaaaaaaaa:2)
 Committed(aaaaaaaa-aaaa-aaaa-aaaa-aaaaaaaaaaaa:2)
 ",
-    ending: Ending {
+    ending: SeatEnding {
         counts: Counts {
             steps: 8,
             commits: 2,
@@ -84,7 +84,7 @@ Shown(aaaaaaaa-aaaa-aaaa-aaaa-aaaaaaaaaaaa:1)
 Taken(aaaaaaaa-aaaa-aaaa-aaaa-aaaaaaaaaaaa:2)
 Committed(aaaaaaaa-aaaa-aaaa-aaaa-aaaaaaaaaaaa:2)
 ",
-    ending: Ending {
+    ending: SeatEnding {
         counts: Counts {
             steps: 9,
             commits: 2,
@@ -117,7 +117,7 @@ SeatIdle
 Committed(cccccccc-cccc-cccc-cccc-cccccccccccc:1)
 Purged(cccccccc-cccc-cccc-cccc-cccccccccccc:1)
 ",
-    ending: Ending {
+    ending: SeatEnding {
         counts: Counts {
             steps: 5,
             commits: 1,

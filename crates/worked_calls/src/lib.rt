@@ -3,12 +3,14 @@
 //!
 //! What they must answer was written down by hand before anything ran. What a program prints for an input is in tests/cases.
 //!
-//! The end of a run of numbers, and sets that grow (`gtid_set`); a row found by its key (`rows`); audits over opening sets that are not
-//! empty, and of other journals than the world was made of (`audit`); what a source without a UUID sends (`auto_position`); a reader that
-//! keeps its refusal and gives its entries once, bundles in pieces, and numbers as they are written (`txn_journal`); a graph of dependencies
-//! (`dependency_graph`); keys and patches (`write_set`); events in one run (`replica_core`, `network`); a ring (`rings`); seats of a shared
-//! replica: calls by turns, a write prepared without the lock, one that comes too late, two commits on threads, and `close` with a pass too
-//! few (`shared_replica`); what a drain adds (`applier`); and lines of a history (`replica_lines`).
+//! Lists of intervals after each of some calls (`interval_pool`); the end of a run of numbers, and sets that grow (`gtid_set`); a row found
+//! by its key (`rows`); audits over opening sets that are not empty, and of other journals than the world was made of (`audit`); what a
+//! source without a UUID sends (`auto_position`); a reader that keeps its refusal and gives its entries once, bundles in pieces, and
+//! numbers as they are written (`txn_journal`); a graph of dependencies (`dependency_graph`); keys and patches (`write_set`); events in one
+//! run (`replica_core`, `network`); a ring (`network`); seats of a shared replica: calls by turns, a write prepared without the lock, one
+//! that comes too late, two commits on threads, and `close` with a pass too few (`shared_replica`); what a drain adds (`applier`); lines of
+//! a history (`replica_lines`); the numbers of a small journal (`logical_timestamps`); and lines, types, values and whole logs of MySQL 9.7
+//! (`binlog_text`, `binlog_entries`).
 #![tactic(auto)]
 
 #[cfg(test)]
@@ -23,6 +25,14 @@ mod graphs;
 mod histories;
 #[cfg(test)]
 mod history_lines;
+#[cfg(test)]
+mod intervals;
+#[cfg(test)]
+mod last_committed;
+#[cfg(test)]
+mod log_lines;
+#[cfg(test)]
+mod logs;
 #[cfg(test)]
 mod lookups;
 #[cfg(test)]

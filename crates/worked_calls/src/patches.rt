@@ -61,8 +61,7 @@ fn see(alloc: Global, rows: &Rows, txn: &Transaction) -> Result<Footprint, Alloc
     ensures all { IfOk result (λ seen. SeesAll rows.now.schema txn.now seen.seen) }
 {
     let keys = keys_of(alloc, rows.schema(), txn)?;
-    let seen = footprint(alloc, rows, keys)?;
-    Ok(seen)
+    footprint(alloc, rows, keys)
 }
 
 /// A transaction, prepared over rows; None where it does not apply to them.

@@ -122,7 +122,7 @@ fn goes_round(alloc: Global, network: &mut Network, events: &[NetworkEvent]) -> 
     if !are_numbered(events) {
         return false;
     }
-    let (replies, fault) = rings::run(network, alloc, events);
+    let (replies, fault) = network::run(network, alloc, events);
     let mut same = fault.is_none() && replies.len() == ANSWERS.len();
     for (reply, expected) in replies.iter().zip(ANSWERS.iter()) {
         same = same && word(reply) == *expected;

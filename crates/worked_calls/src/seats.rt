@@ -28,7 +28,7 @@ enum Task {
 
 /// What the closed book shows.
 #[derive(Clone, Copy)]
-pub(crate) struct Ending {
+pub(crate) struct SeatEnding {
     pub(crate) counts: Counts,
     /// The places of the first seat's receipts, where they are asked for.
     pub(crate) first: Option<&'static [u64]>,
@@ -263,9 +263,9 @@ fn work<N: Naming + Send + Sync, R: Threads + Wait + Sync>(
 }
 
 /// What the book of a task shows.
-fn wanted_ending(wish: Task) -> Ending {
+fn wanted_ending(wish: Task) -> SeatEnding {
     match wish {
-        Task::Late => Ending {
+        Task::Late => SeatEnding {
             counts: Counts {
                 steps: 14,
                 commits: 2,
@@ -279,7 +279,7 @@ fn wanted_ending(wish: Task) -> Ending {
                 "row t 9 x39 null\n",
             ),
         },
-        Task::AtOnce => Ending {
+        Task::AtOnce => SeatEnding {
             counts: Counts {
                 steps: 9,
                 commits: 2,
@@ -323,7 +323,7 @@ fn has_receipts(book: &ClosedBook, seat: u8, places: Option<&'static [u64]>) -> 
     }
 }
 
-fn shows(alloc: Global, book: &ClosedBook, want: Ending) -> bool {
+fn shows(alloc: Global, book: &ClosedBook, want: SeatEnding) -> bool {
     book.counts() == want.counts
         && book.steps().len() as u64 == want.counts.steps
         && has_receipts(book, 1, want.first)
@@ -356,7 +356,7 @@ fn closes<N: Naming>(
     alloc: Global,
     replica: SharedReplica<N>,
     passes: Vec<Pass<N>>,
-    want: Ending,
+    want: SeatEnding,
 ) -> bool {
     match replica.close(passes) {
         Ok(book) => shows(alloc, &book, want) && starts_again(alloc, &book),
@@ -369,7 +369,7 @@ pub(crate) fn ends<N: Naming>(
     alloc: Global,
     replica: SharedReplica<N>,
     passes: Vec<Pass<N>>,
-    want: Ending,
+    want: SeatEnding,
 ) -> bool {
     let mut passes = passes;
     let last = passes.pop();

@@ -12,19 +12,19 @@ use Rattle.gtid_text.specs.Gtids.{gtid_cmp, same_gtid}
 use Rattle.gtid_set.specs.Sets.{Gtids}
 use Rattle.journal.specs.declared.Entry.{Entry}
 use Rattle.journal.specs.Journals.{JournalValue}
-use Rattle.source_history.specs.World.{World, content, is_opened, of_source, entries_in, apply_all, rows_of, HasNumber, IsClosed, AreKeysSound, IsSound}
-use Rattle.source_history.specs.World as history
-use Rattle.ordered_history.specs.World.{IsIn}
-use Rattle.source_history.proofs.Entries.{is_in, found}
-use Rattle.ordered_journals.proofs.Lists.{all_at}
-use Rattle.ordered_journals.proofs.Covering.{is_entry, entries_append, any_tied}
+use Rattle.history.specs.Sources.{World, content}
+use Rattle.history.specs.Sources as history
+use Rattle.history.specs.World.{IsIn}
+use Rattle.history.proofs.SourceEntries.{is_in, found}
+use Rattle.history.proofs.Covering.{is_entry, entries_append, any_tied}
 use Rattle.world.specs.Audit.{all_entries, first_contents}
 use Rattle.std.proofs.lemmas.Bool.{or_cases, or_left, or_right}
 use Rattle.std.proofs.lemmas.Option.{same_Some}
 use Rattle.std.proofs.lemmas.Map.Keys.{any_passes_from_place}
-use Rattle.gtid_text.proofs.SameGtid.{same_itself, same_is_equal, gtid_total}
-use Rattle.rows.proofs.Patching.{not_both}
-use Rattle.rows.proofs.Lists.{none_some, any_at}
+use Rattle.lemmas.proofs.Options.{none_some}
+use Rattle.lemmas.proofs.Tests.{not_both}
+use Rattle.lemmas.proofs.SameGtid.{same_itself, same_is_equal, gtid_total}
+use Rattle.lemmas.proofs.Lists.{all_at, any_at}
 
 -- ---- entries and places
 

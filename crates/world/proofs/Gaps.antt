@@ -8,33 +8,33 @@ use Rattle.std.specs.FinSet as set
 use Rattle.std.specs.FinSet.{is_subset-contains}
 use Rattle.std.proofs.lemmas.Bool.{eqb-true, eq-eqb, or_cases, or_left, or_right, and_parts, not-true, false_from_ne_true, true_from_ne_false, and_from, not_from_false}
 use Rattle.gtid_text.specs.declared.Gtid.{Gtid}
-use Rattle.gtid_set.specs.Sets.{Gtids}
 use Rattle.rows.specs.declared.change.Key.{Key}
 use Rattle.rows.specs.declared.change.Transaction.{Transaction}
 use Rattle.rows.specs.declared.schema.Table.{Table}
 use Rattle.rows.specs.Order.{key_eq}
 use Rattle.rows.specs.Total.{key_eq_same, key_eq_self}
-use Rattle.rows.specs.Apply.{Rows}
-use Rattle.rows.specs.WriteSet.{write_set, touches, shares_key}
+use Rattle.rows.specs.WriteSet.{write_set, touches}
+use Rattle.rows.specs.Conflicts.{conflicts, sharing_is_conflict, conflict_is_sharing}
 use Rattle.journal.specs.declared.Entry.{Entry}
 use Rattle.journal.specs.Journals.{JournalValue}
-use Rattle.source_history.specs.World.{World, content, is_opened}
-use Rattle.source_history.specs.World as history
-use Rattle.source_history.specs.LastWriter.{latest, later_of}
-use Rattle.ordered_journals.proofs.Lists.{get_take}
+use Rattle.history.specs.Sources.{World, content, is_opened}
+use Rattle.history.specs.Sources as history
+use Rattle.history.specs.LatestWriter.{latest, later_of}
 use Rattle.world.specs.declared.verdict.Verdict.{Verdict}
 use Rattle.world.specs.declared.verdict.Verdict.TheVariants.{Unequal, Purged, NotClosed}
 use Rattle.world.specs.Search.{or_next, first_at, first}
 use Rattle.world.specs.Audit.{all_entries, world_of, is_content, is_unequal, unequal, purged, is_recorded_in, is_recorded_before, is_left_out}
 use Rattle.world.specs.Folds.{last_toucher, has_gap, least_left_out, OnePassCloses}
-use Rattle.world.proofs.Finding.{when_none, none_when, first_none, none_first, taken, filtered, left_by_filter, below_test}
+use Rattle.world.proofs.Finding.{when_none, none_when, first_none, none_first}
 use Rattle.world.proofs.Contents.{entry_at, entry_from, at_content, contents_outside}
 use Rattle.world.proofs.Meanings.{content_is_by, le_cases}
 use Rattle.std.proofs.lemmas.Option.{same_Some}
 use Rattle.std.proofs.lemmas.Map.Keys.{any_passes_from_place}
-use Rattle.gtid_text.proofs.SameGtid.{gtid_total}
-use Rattle.rows.proofs.Patching.{not_both}
-use Rattle.rows.proofs.Lists.{none_some, any_at}
+use Rattle.lemmas.proofs.Options.{none_some}
+use Rattle.lemmas.proofs.Tests.{not_both}
+use Rattle.lemmas.proofs.SameGtid.{gtid_total}
+use Rattle.lemmas.proofs.Lists.{get_take, taken, filtered, left_by_filter, any_at}
+use Rattle.lemmas.proofs.Numbers.{ge_of_test, lt_of_test, below_test}
 
 -- ---- a guarded search
 
@@ -76,12 +76,6 @@ pub latest_in : (es : List history.Entry) (f : history.Entry) → latest es ≡ 
 latest_in [] f e = cc
 latest_in (x ∷ es) f e = latest_by (λ g. (i : ℕ) × (slice_get (x ∷ es) i ≡ Some g)) x f (latest es) (zero, refl) (λ g h. let r = latest_in es g h in (suc r.0, r.1)) e
 
-number_le : (a b : ℕ) → nat_lt a b ≡ false → b ≤ a
-number_le a b e = grind arith
-
-pub number_lt : (a b : ℕ) → nat_lt a b ≡ true → a < b
-number_lt a b e = grind arith
-
 -- there is a latest, and it is none earlier than this
 pub latest_over : (es : List history.Entry) (i : ℕ) (h : history.Entry) → slice_get es i ≡ Some h → (f : history.Entry) × (latest es ≡ Some f) × (h.0.number ≤ f.0.number)
 latest_over [] i h e = none_some h e
@@ -89,11 +83,11 @@ latest_over (x ∷ es) i h e = by (latest es) refl i e (λ k r. latest_over es k
   where
     at_test : (g : history.Entry) (b : Bool) → nat_lt g.0.number x.0.number ≡ b → (h.0.number ≤ x.0.number) ⊎ (h.0.number ≤ g.0.number) → (f : history.Entry) × (cond b (Some x) (Some g) ≡ Some f) × (h.0.number ≤ f.0.number)
     at_test g true t (inl a) = (x, refl, a)
-    at_test g true t (inr a) = (x, refl, below_both h.0.number g.0.number x.0.number a (number_lt g.0.number x.0.number t))
+    at_test g true t (inr a) = (x, refl, below_both h.0.number g.0.number x.0.number a (lt_of_test g.0.number x.0.number t))
       where
         below_both : (a b c : ℕ) → a ≤ b → b < c → a ≤ c
         below_both a b c l m = omega arith
-    at_test g false t (inl a) = (g, refl, le_both h.0.number x.0.number g.0.number a (number_le g.0.number x.0.number t))
+    at_test g false t (inl a) = (g, refl, le_both h.0.number x.0.number g.0.number a (ge_of_test g.0.number x.0.number t))
       where
         le_both : (a b c : ℕ) → a ≤ b → b ≤ c → a ≤ c
         le_both a b c l m = omega arith
@@ -113,18 +107,18 @@ latest_over (x ∷ es) i h e = by (latest es) refl i e (λ k r. latest_over es k
 
 -- ---- what is left out
 
-shared_key : (schema : List Table) (t u : Transaction) → shares_key schema t u ≡ true → (k : Key) × (touches schema t k ≡ true) × (i : ℕ) × (slice_get (write_set schema u) i ≡ Some k)
-shared_key schema t u h =
-    let r = any_at (touches schema u) (write_set schema t) h in
+conflict_key : (schema : List Table) (t u : Transaction) → conflicts schema t u ≡ true → (k : Key) × (touches schema t k ≡ true) × (i : ℕ) × (slice_get (write_set schema u) i ≡ Some k)
+conflict_key schema t u h =
+    let r = any_at (touches schema u) (write_set schema t) (sym (conflict_is_sharing schema t u) ∙ h) in
     let q = any_at (key_eq r.1) (write_set schema u) r.3 in
     let same : r.1 ≡ q.1 = key_eq_same r.1 q.1 q.3 in
     (q.1, ap (touches schema t) (sym same) ∙ any_passes_from_place (key_eq r.1) (write_set schema t) r.0 r.1 r.2 (key_eq_self r.1), q.0, q.2)
 
-shares_by : (schema : List Table) (t u : Transaction) (k : Key) → touches schema t k ≡ true → touches schema u k ≡ true → shares_key schema t u ≡ true
-shares_by schema t u k a b =
+conflict_by : (schema : List Table) (t u : Transaction) (k : Key) → touches schema t k ≡ true → touches schema u k ≡ true → conflicts schema t u ≡ true
+conflict_by schema t u k a b =
     let r = any_at (key_eq k) (write_set schema t) a in
     let same : k ≡ r.1 = key_eq_same k r.1 r.3 in
-    any_passes_from_place (touches schema u) (write_set schema t) r.0 r.1 r.2 (ap (touches schema u) (sym same) ∙ b)
+    sharing_is_conflict schema t u (any_passes_from_place (touches schema u) (write_set schema t) r.0 r.1 r.2 (ap (touches schema u) (sym same) ∙ b))
 
 same_gtids : (g h : Gtid) → g.source ≡ h.source → g.number ≡ h.number → g ≡ h
 same_gtids g h s n = λ i. record { source = s i; number = n i }
@@ -161,9 +155,9 @@ module _ (w : World) (journals : List JournalValue) (outside : (g : Gtid) (t : T
     module _ (i : ℕ) (j : JournalValue) (hj : slice_get journals i ≡ Some j) (place : ℕ) (e : Entry) (he : slice_get j.entries place ≡ Some e)
         (before : (q : ℕ) (x : Entry) → q < place → slice_get j.entries q ≡ Some x → least_left_out w j q x ≡ None) (shut : has_gap w j place e ≡ false) where
       -- what precedes the last toucher of a common key comes before it, and it comes before the entry
-      stands_too : (l : ℕ) (h : history.Entry) → slice_get (finmap.entries w.contents) l ≡ Some h → is_opened w e.gtid ≡ false → h.0.source ≡ e.gtid.source → h.0.number < e.gtid.number → shares_key w.schema h.1 e.txn ≡ true → is_recorded_before j place h.0 ≡ true
+      stands_too : (l : ℕ) (h : history.Entry) → slice_get (finmap.entries w.contents) l ≡ Some h → is_opened w e.gtid ≡ false → h.0.source ≡ e.gtid.source → h.0.number < e.gtid.number → conflicts w.schema h.1 e.txn ≡ true → is_recorded_before j place h.0 ≡ true
       stands_too l h hl out same less shares =
-          let k = shared_key w.schema h.1 e.txn shares in
+          let k = conflict_key w.schema h.1 e.txn shares in
           let p : history.Entry → Bool = λ x. (x.0.source == e.gtid.source) && (nat_lt x.0.number e.gtid.number && touches w.schema x.1 k.0) in
           let passes : p h ≡ true = and_from (h.0.source == e.gtid.source) _ (eq-eqb h.0.source e.gtid.source same) (and_from (nat_lt h.0.number e.gtid.number) (touches w.schema h.1 k.0) (below_test h.0.number e.gtid.number less) k.1) in
           let at = left_by_filter p (finmap.entries w.contents) l h hl passes in
@@ -197,7 +191,7 @@ module _ (w : World) (journals : List JournalValue) (outside : (g : Gtid) (t : T
                   (and_from (not (is_opened w a.1.gtid)) _ (not_from_false (is_opened w a.1.gtid) x_out)
                   (and_from (h.0.source == a.1.gtid.source) _ (eq-eqb h.0.source a.1.gtid.source (sym is_source ∙ ap (λ (y : Gtid). y.source) (sym a.3)))
                   (and_from (nat_lt h.0.number a.1.gtid.number) _ (below_test h.0.number a.1.gtid.number (subst (λ (y : Gtid). h.0.number < y.number) (sym a.3) lower))
-                  (and_from (shares_key w.schema h.1 a.1.txn) (not (is_recorded_before j a.0 h.0)) (shares_by w.schema h.1 a.1.txn k.0 k.1 (ap (λ (y : Transaction). touches w.schema y k.0) (sym is_txn) ∙ rest.1)) (not_from_false (is_recorded_before j a.0 h.0) no))))) test) in
+                  (and_from (conflicts w.schema h.1 a.1.txn) (not (is_recorded_before j a.0 h.0)) (conflict_by w.schema h.1 a.1.txn k.0 k.1 (ap (λ (y : Transaction). touches w.schema y k.0) (sym is_txn) ∙ rest.1)) (not_from_false (is_recorded_before j a.0 h.0) no))))) test) in
                   stands_later j a.0 place h.0 b.1 stands
             ]
           ]
@@ -211,9 +205,9 @@ module _ (w : World) (journals : List JournalValue) (outside : (g : Gtid) (t : T
           let a = and_parts (not (is_opened w e.gtid)) _ t in
           let b = and_parts (h.0.source == e.gtid.source) _ a.1 in
           let c = and_parts (nat_lt h.0.number e.gtid.number) _ b.1 in
-          let d = and_parts (shares_key w.schema h.1 e.txn) (not (is_recorded_before j place h.0)) c.1 in
+          let d = and_parts (conflicts w.schema h.1 e.txn) (not (is_recorded_before j place h.0)) c.1 in
           not_both (is_recorded_before j place h.0)
-          (stands_too l h hl (not-true (is_opened w e.gtid) a.0) (eqb-true h.0.source e.gtid.source b.0) (number_lt h.0.number e.gtid.number c.0) d.0)
+          (stands_too l h hl (not-true (is_opened w e.gtid) a.0) (eqb-true h.0.source e.gtid.source b.0) (lt_of_test h.0.number e.gtid.number c.0) d.0)
           (not-true (is_recorded_before j place h.0) d.1))))
 
     of_journal : (i : ℕ) (j : JournalValue) → slice_get journals i ≡ Some j → first_at (least_left_out w j) j.entries ≡ first_at (λ place e. cond (has_gap w j place e) (least_left_out w j place e) None) j.entries

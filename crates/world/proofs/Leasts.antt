@@ -15,26 +15,29 @@ use Rattle.rows.specs.declared.change.Key.{Key}
 use Rattle.rows.specs.declared.change.RowFault.{RowFault}
 use Rattle.rows.specs.Order.{key_eq}
 use Rattle.rows.specs.Total.{key_eq_same}
-use Rattle.rows.specs.WriteSet.{write_set, touches}
-use Rattle.source_history.specs.World.{World, content, of_source, entries_in, rows_of, is_opened}
-use Rattle.source_history.specs.World as history
-use Rattle.source_history.proofs.Gtids.{number_less}
-use Rattle.source_history.proofs.Entries.{IsAscending, rising}
-use Rattle.ordered_journals.proofs.Lists.{get_map, all_at}
+use Rattle.rows.specs.WriteSet.{write_set}
+use Rattle.history.specs.Sources.{content, of_source, entries_in, is_opened}
+use Rattle.history.specs.Sources as history
+use Rattle.history.proofs.SourceGtids.{number_less}
+use Rattle.history.proofs.SourceEntries.{IsAscending, rising}
 use Rattle.world.specs.declared.verdict.Verdict.TheVariants.{Missing, Shared, DoesNotApply}
 use Rattle.world.specs.Search.{first, when}
 use Rattle.world.specs.Audit.{all_entries, world_of, is_recorded_in, present, is_absent, below, first_fault}
 use Rattle.world.specs.Cases.{IsShared}
 use Rattle.world.specs.Least.{MissingIsLeast, SharedIsLeast, FirstSourceFails}
-use Rattle.world.proofs.Finding.{when_none, when_some, first_none, first_some, below_test, get_range, filtered}
+use Rattle.world.proofs.Finding.{when_none, when_some, first_none, first_some}
 use Rattle.world.proofs.Contents.{content_at, at_content, some_of, entry_content}
 use Rattle.world.proofs.Meanings.{alone_from_none, one_and}
 use Rattle.world.proofs.Standing.{fails_in}
 use Rattle.world.proofs.OnePass.{source_le}
 use Rattle.std.proofs.lemmas.Option.{same_Some}
-use Rattle.gtid_text.proofs.SameGtid.{gtid_total}
-use Rattle.rows.proofs.Patching.{not_both}
-use Rattle.rows.proofs.Lists.{none_some, map_some, get_map_cases, any_at}
+use Rattle.lemmas.proofs.Options.{none_some, map_some}
+use Rattle.lemmas.proofs.Tests.{not_both}
+use Rattle.lemmas.proofs.SameGtid.{gtid_total}
+use Rattle.lemmas.proofs.Numbers.{below_test}
+use Rattle.lemmas.proofs.Lists.{get_map, all_at, get_range, filtered, get_map_cases, any_at}
+use Rattle.rows.specs.Conflicts.{conflicts_at, conflict_at_both}
+use Rattle.rows.specs.declared.change.Transaction.{Transaction}
 
 -- ---- places of an ascending list
 
@@ -141,7 +144,7 @@ shared_is_least world g h key found =
     let a = first_some _ es (Shared g h key) found in
     let b = first_some _ (write_set world.schema a.element.1) (Shared g h key) a.gives in
     let c = first_some _ es (Shared g h key) b.gives in
-    let d = when_some (nat_lt c.element.0.source a.element.0.source && touches world.schema c.element.1 b.element) (Shared c.element.0 a.element.0 b.element) (Shared g h key) c.gives in
+    let d = when_some (nat_lt c.element.0.source a.element.0.source && conflicts_at world.schema c.element.1 a.element.1 b.element) (Shared c.element.0 a.element.0 b.element) (Shared g h key) c.gives in
     let same = same_shared c.element.0 a.element.0 g h b.element key d.1 in
     let u_there : content world h ≡ Some a.element.1 = ap (content world) (sym same.1) ∙ at_content world a.place a.element a.there in
     record {
@@ -157,27 +160,28 @@ shared_is_least world g h key found =
           let is_u : s.u ≡ a.element.1 = same_Some s.u a.element.1 (sym s.second ∙ u_there) in
           let p = content_at world x s.t s.first in
           let none = first_none _ es (b.earlier i k l at) p.0 (x, s.t) p.1 in
-          not_both (nat_lt x.source a.element.0.source && touches world.schema s.t k)
-          (and_from (nat_lt x.source a.element.0.source) (touches world.schema s.t k) (below_test x.source a.element.0.source (subst (λ (y : Gtid). x.source < y.source) (sym same.1) s.smaller)) s.touches_first)
-          (when_none (nat_lt x.source a.element.0.source && touches world.schema s.t k) (Shared x a.element.0 k) none);
+          not_both (nat_lt x.source a.element.0.source && conflicts_at world.schema s.t a.element.1 k)
+          (and_from (nat_lt x.source a.element.0.source) (conflicts_at world.schema s.t a.element.1 k) (below_test x.source a.element.0.source (subst (λ (y : Gtid). x.source < y.source) (sym same.1) s.smaller)) (ap (λ (y : Transaction). conflicts_at world.schema s.t y k) (sym is_u) ∙ s.conflict))
+          (when_none (nat_lt x.source a.element.0.source && conflicts_at world.schema s.t a.element.1 k) (Shared x a.element.0 k) none);
       first = λ x s less.
+          let is_u : s.u ≡ a.element.1 = same_Some s.u a.element.1 (sym s.second ∙ u_there) in
           let p = content_at world x s.t s.first in
           let l = index_less es (rising world) p.0 c.place (x, s.t) c.element p.1 c.there (ap (gtid_cmp x) same.0 ∙ less) in
-          not_both (nat_lt x.source a.element.0.source && touches world.schema s.t b.element)
-          (and_from (nat_lt x.source a.element.0.source) (touches world.schema s.t b.element) (below_test x.source a.element.0.source (subst (λ (y : Gtid). x.source < y.source) (sym same.1) s.smaller)) (ap (touches world.schema s.t) same.2 ∙ s.touches_first))
-          (when_none (nat_lt x.source a.element.0.source && touches world.schema s.t b.element) (Shared x a.element.0 b.element) (c.earlier p.0 (x, s.t) l p.1));
+          not_both (nat_lt x.source a.element.0.source && conflicts_at world.schema s.t a.element.1 b.element)
+          (and_from (nat_lt x.source a.element.0.source) (conflicts_at world.schema s.t a.element.1 b.element) (below_test x.source a.element.0.source (subst (λ (y : Gtid). x.source < y.source) (sym same.1) s.smaller)) ((λ i. conflicts_at world.schema s.t (sym is_u i) (same.2 i)) ∙ s.conflict))
+          (when_none (nat_lt x.source a.element.0.source && conflicts_at world.schema s.t a.element.1 b.element) (Shared x a.element.0 b.element) (c.earlier p.0 (x, s.t) l p.1));
     }
   where
     -- what gives nothing shares nothing
-    refute : (x y : Gtid) (k : Key) (s : IsShared world x y k) → first (λ q. first (λ (e : history.Entry). when (nat_lt e.0.source y.source && touches world.schema e.1 q) (Shared e.0 y q)) (finmap.entries world.contents)) (write_set world.schema s.u) ≡ None → ⊥
+    refute : (x y : Gtid) (k : Key) (s : IsShared world x y k) → first (λ q. first (λ (e : history.Entry). when (nat_lt e.0.source y.source && conflicts_at world.schema e.1 s.u q) (Shared e.0 y q)) (finmap.entries world.contents)) (write_set world.schema s.u) ≡ None → ⊥
     refute x y k s none =
-        let r = any_at (key_eq k) (write_set world.schema s.u) s.touches_second in
+        let r = any_at (key_eq k) (write_set world.schema s.u) (conflict_at_both world.schema s.t s.u k s.conflict).1 in
         let is_k : k ≡ r.1 = key_eq_same k r.1 r.3 in
         let p = content_at world x s.t s.first in
         let one = first_none _ (finmap.entries world.contents) (first_none _ (write_set world.schema s.u) none r.0 r.1 r.2) p.0 (x, s.t) p.1 in
-        not_both (nat_lt x.source y.source && touches world.schema s.t r.1)
-        (and_from (nat_lt x.source y.source) (touches world.schema s.t r.1) (below_test x.source y.source s.smaller) (ap (touches world.schema s.t) (sym is_k) ∙ s.touches_first))
-        (when_none (nat_lt x.source y.source && touches world.schema s.t r.1) (Shared x y r.1) one)
+        not_both (nat_lt x.source y.source && conflicts_at world.schema s.t s.u r.1)
+        (and_from (nat_lt x.source y.source) (conflicts_at world.schema s.t s.u r.1) (below_test x.source y.source s.smaller) (ap (conflicts_at world.schema s.t s.u) (sym is_k) ∙ s.conflict))
+        (when_none (nat_lt x.source y.source && conflicts_at world.schema s.t s.u r.1) (Shared x y r.1) one)
 
 -- ---- DoesNotApply
 

@@ -8,3 +8,11 @@ pub mod OnePass
 pub mod Touching
 pub mod Gaps
 pub mod Leasts
+pub mod Opening
+pub mod Nexts
+pub mod Turns
+pub mod Histories
+pub mod Sounding
+pub mod Naming
+pub mod StandingInOrder
+pub mod Exact

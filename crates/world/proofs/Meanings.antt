@@ -13,34 +13,36 @@ use Rattle.rows.specs.declared.schema.Table.{Table}
 use Rattle.rows.specs.Order.{key_eq}
 use Rattle.rows.specs.Total.{key_eq_same, key_eq_self}
 use Rattle.rows.specs.Apply.{Rows, apply, ◌>>=◌}
-use Rattle.rows.specs.WriteSet.{write_set, touches, shares_key}
+use Rattle.rows.specs.WriteSet.{write_set, touches}
+use Rattle.rows.specs.Conflicts.{conflicts, conflict_is_sharing, conflicts_at, conflict_at_touched}
 use Rattle.gtid_text.specs.declared.Gtid.{Gtid}
 use Rattle.gtid_set.specs.Sets.{Gtids, greatest}
 use Rattle.journal.specs.declared.Entry.{Entry}
 use Rattle.journal.specs.Writing.{is_writable, is_number, is_txn_writable}
 use Rattle.journal.specs.Journals.{JournalValue, IsJournal}
-use Rattle.source_history.specs.World.{World, content, is_opened, of_source, entries_in, apply_all, rows_of, HasNumber, IsClosed, AreKeysSound, IsSound}
-use Rattle.source_history.specs.World as history
-use Rattle.ordered_history.proofs.Commuting.{AreApart, apart_back}
-use Rattle.source_history.specs.Faithful.{IsFaithful}
-use Rattle.ordered_journals.proofs.Lists.{get_map, get_take, all_at, all_from}
-use Rattle.ordered_journals.proofs.Covering.{is_entry, covered}
-use Rattle.source_history.proofs.Fronts.{front, to_fronts}
+use Rattle.history.specs.Sources.{World, content, is_opened, of_source, entries_in, apply_all, rows_of, HasNumber, AreKeysSound, IsClosedBySource, in_order}
+use Rattle.history.specs.Sources as history
+use Rattle.history.proofs.Commuting.{AreApart, apart_back}
+use Rattle.history.specs.SourceJournals.{IsFaithful, IsFaithfulBySource}
+use Rattle.history.proofs.Covering.{is_entry, covered, front, to_fronts}
+use Rattle.history.proofs.Same.{same_content, same_closed, same_faithful}
 use Rattle.world.specs.declared.verdict.Verdict.{Verdict}
 use Rattle.world.specs.declared.verdict.Verdict.TheVariants.{Unequal, Purged, Missing, Shared, NotClosed, DoesNotApply, Sound}
 use Rattle.world.specs.Search.{or_next, when, first_at}
 use Rattle.world.specs.Equal.{txn_eq}
 use Rattle.world.specs.Audit.{all_entries, world_of, is_content, is_unequal, unequal, purged, present, is_absent, below, missing, shared, is_left_out, not_closed, fault_after, first_fault, does_not_apply, found_in_keys}
 use Rattle.world.specs.Meaning.{AreJournals, SoundMeansSound, KeysSoundMeans}
-use Rattle.world.proofs.Finding.{below_test, next_none, next_some, when_none, when_some, first_none, first_some, taken, get_range}
+use Rattle.world.proofs.Finding.{next_none, next_some, when_none, when_some, first_none, first_some}
 use Rattle.world.proofs.Same.{txn_same}
 use Rattle.world.proofs.Contents.{entry_at, entry_from, in_all, content_at, some_of, contents_outside, contents_entry, entry_content}
 use Rattle.std.proofs.lemmas.Option.{same_Some}
 use Rattle.std.proofs.lemmas.Map.Keys.{any_passes_from_place}
-use Rattle.gtid_text.proofs.SameGtid.{gtid_total}
-use Rattle.rows.proofs.Patching.{not_both}
-use Rattle.rows.proofs.Lists.{none_some, map_some, any_at}
-use Rattle.ordered_history.proofs.Entries.{some_is}
+use Rattle.lemmas.proofs.Tests.{not_both}
+use Rattle.lemmas.proofs.SameGtid.{gtid_total}
+use Rattle.lemmas.proofs.Numbers.{below_test}
+use Rattle.lemmas.proofs.Lists.{get_map, get_take, all_at, all_from, taken, get_range, any_at}
+use Rattle.lemmas.proofs.Options.{none_mapped, none_some, map_some}
+use Rattle.history.proofs.Entries.{some_is}
 
 -- ---- nothing that is found is called Sound
 
@@ -102,9 +104,10 @@ numbered (x ∷ es) zero e h at =
     from_test n t = grind arith
 numbered (x ∷ es) (suc i) e h at = numbered es i e (and_parts (is_writable x) (list_all is_writable es) h).1 at
 
-pub shares_from : (schema : List Table) (t u : Transaction) → AreApart schema t u → shares_key schema t u ≡ false
-shares_from schema t u apart = false_from_ne_true (shares_key schema t u) (λ e.
-    let r = any_at (touches schema u) (write_set schema t) e in
+-- two that touch no common key don't conflict: the audit looks for keys alone
+pub no_conflict_from : (schema : List Table) (t u : Transaction) → AreApart schema t u → conflicts schema t u ≡ false
+no_conflict_from schema t u apart = false_from_ne_true (conflicts schema t u) (λ e.
+    let r = any_at (touches schema u) (write_set schema t) (sym (conflict_is_sharing schema t u) ∙ e) in
     not_both (touches schema u r.1) r.3 (apart r.1 (any_passes_from_place (key_eq r.1) (write_set schema t) r.0 r.1 r.2 (key_eq_self r.1))))
 
 -- where nothing is shared, transactions of two sources share no key
@@ -117,13 +120,13 @@ module _ (w : World) (shared_none : shared w ≡ None) where
       let is_k : k ≡ b.1 = key_eq_same k b.1 b.3 in
       let one = first_none _ (finmap.entries w.contents) shared_none a.0 (h, u) a.1 in
       let two = first_none _ (write_set w.schema u) one b.0 b.1 b.2 in
-      let test = when_none (nat_lt g.source h.source && touches w.schema t b.1) (Shared g h b.1) (first_none _ (finmap.entries w.contents) two c.0 (g, t) c.1) in
-      false_from_ne_true (touches w.schema t k) (λ e. not_both (nat_lt g.source h.source && touches w.schema t b.1) (and_from (nat_lt g.source h.source) (touches w.schema t b.1) (below_test g.source h.source less) (ap (touches w.schema t) (sym is_k) ∙ e)) test)
+      let test = when_none (nat_lt g.source h.source && conflicts_at w.schema t u b.1) (Shared g h b.1) (first_none _ (finmap.entries w.contents) two c.0 (g, t) c.1) in
+      false_from_ne_true (touches w.schema t k) (λ e. not_both (nat_lt g.source h.source && conflicts_at w.schema t u b.1) (and_from (nat_lt g.source h.source) (conflicts_at w.schema t u b.1) (below_test g.source h.source less) (ap (conflicts_at w.schema t u) (sym is_k) ∙ conflict_at_touched w.schema t u k touched ∙ e)) test)
 
-  pub sources_apart : (g h : Gtid) (t u : Transaction) → content w g ≡ Some t → content w h ≡ Some u → g.source ≢ h.source → shares_key w.schema t u ≡ false
+  pub sources_apart : (g h : Gtid) (t u : Transaction) → content w g ≡ Some t → content w h ≡ Some u → g.source ≢ h.source → conflicts w.schema t u ≡ false
   sources_apart g h t u eg eh other = elim (two_sides g.source h.source other) [
-    | inl less ↦ shares_from w.schema t u (apart_back w.schema u t (untouched g h t u eg eh less))
-    | inr more ↦ shares_from w.schema t u (untouched h g u t eh eg more)
+    | inl less ↦ no_conflict_from w.schema t u (apart_back w.schema u t (untouched g h t u eg eh less))
+    | inr more ↦ no_conflict_from w.schema t u (untouched h g u t eh eg more)
   ]
 
 module _ (schema : List Table) (opened : Gtids) (rows : Rows) (journals : List JournalValue) (are : AreJournals journals) where
@@ -200,7 +203,7 @@ module _ (schema : List Table) (opened : Gtids) (rows : Rows) (journals : List J
       | inr same ↦ inr (subst (λ (x : ℕ). IsSome (content w (record { source = g.source; number = x }))) (sym same) h)
     ]
 
-    apart : (g h : Gtid) (t u : Transaction) → content w g ≡ Some t → content w h ≡ Some u → g.source ≢ h.source → shares_key schema t u ≡ false
+    apart : (g h : Gtid) (t u : Transaction) → content w g ≡ Some t → content w h ≡ Some u → g.source ≢ h.source → conflicts schema t u ≡ false
     apart = sources_apart w n.shared_none
 
     keys_sound : AreKeysSound w
@@ -213,7 +216,7 @@ module _ (schema : List Table) (opened : Gtids) (rows : Rows) (journals : List J
         let b = taken es i a.0 a.1 a.2 in
         subst (λ (x : Gtid). is_entry (take k es) x ≡ true) a.3 (entry_from (take k es) a.0 a.1 (get_take es k a.0 a.1 b.0 (omega arith)))
 
-    needed_here : (i : ℕ) (j : JournalValue) (k : ℕ) (e : Entry) (g : Gtid) (t : Transaction) → slice_get journals i ≡ Some j → slice_get j.entries k ≡ Some e → is_opened w e.gtid ≡ false → content w g ≡ Some t → g.source ≡ e.gtid.source → g.number < e.gtid.number → shares_key schema t e.txn ≡ true → covered j.previous (take k j.entries) g ≡ true
+    needed_here : (i : ℕ) (j : JournalValue) (k : ℕ) (e : Entry) (g : Gtid) (t : Transaction) → slice_get journals i ≡ Some j → slice_get j.entries k ≡ Some e → is_opened w e.gtid ≡ false → content w g ≡ Some t → g.source ≡ e.gtid.source → g.number < e.gtid.number → conflicts schema t e.txn ≡ true → covered j.previous (take k j.entries) g ≡ true
     needed_here i j k e g t hj he out eg same less shares =
         let c = content_at w g t eg in
         let one = first_none _ journals n.closed_none i j hj in
@@ -224,9 +227,9 @@ module _ (schema : List Table) (opened : Gtids) (rows : Rows) (journals : List J
         (and_from (not (is_opened w e.gtid)) _ (not_from_false (is_opened w e.gtid) out)
         (and_from (g.source == e.gtid.source) _ (eq-eqb g.source e.gtid.source same)
         (and_from (nat_lt g.number e.gtid.number) _ (below_test g.number e.gtid.number less)
-        (and_from (shares_key schema t e.txn) (not (covered j.previous (take k j.entries) g)) shares (not_from_false (covered j.previous (take k j.entries) g) no))))) test)
+        (and_from (conflicts schema t e.txn) (not (covered j.previous (take k j.entries) g)) shares (not_from_false (covered j.previous (take k j.entries) g) no))))) test)
 
-    front_closed : (i : ℕ) (j : JournalValue) → slice_get journals i ≡ Some j → (k : ℕ) → IsClosed w (front w j.previous (take k j.entries))
+    front_closed : (i : ℕ) (j : JournalValue) → slice_get journals i ≡ Some j → (k : ℕ) → IsClosedBySource w (front (in_order w) j.previous (take k j.entries))
     front_closed i j hj k = record {
       opened = λ g e. or_left (is_opened w g) (covered j.previous (take k j.entries) g) e;
       known = λ g e. elim (cases_Bool (is_opened w g)) [
@@ -256,7 +259,7 @@ module _ (schema : List Table) (opened : Gtids) (rows : Rows) (journals : List J
                 let b = taken j.entries k a.0 a.1 a.2 in
                 let c = equal_here i j a.0 a.1 hj b.0 (ap (is_opened w) a.3 ∙ out) in
                 let is_u : u ≡ a.1.txn = same_Some u a.1.txn (sym eh ∙ (ap (content w) (sym a.3) ∙ c)) in
-                let d = needed_here i j a.0 a.1 g t hj b.0 (ap (is_opened w) a.3 ∙ out) eg (same ∙ ap (λ (x : Gtid). x.source) (sym a.3)) (subst (λ (x : Gtid). g.number < x.number) (sym a.3) less) (ap (shares_key schema t) (sym is_u) ∙ shares) in
+                let d = needed_here i j a.0 a.1 g t hj b.0 (ap (is_opened w) a.3 ∙ out) eg (same ∙ ap (λ (x : Gtid). x.source) (sym a.3)) (subst (λ (x : Gtid). g.number < x.number) (sym a.3) less) (ap (conflicts schema t) (sym is_u) ∙ shares) in
                 elim (or_cases (set.contains j.previous g) (is_entry (take a.0 j.entries) g) d) [
                   | inl p ↦ or_left (set.contains j.previous g) (is_entry (take k j.entries) g) p
                   | inr f ↦ or_right (set.contains j.previous g) (is_entry (take k j.entries) g) (earlier_too j.entries a.0 k g (omega arith) f)
@@ -266,8 +269,8 @@ module _ (schema : List Table) (opened : Gtids) (rows : Rows) (journals : List J
 
     all_faithful : AllByRecursion (IsFaithful w) journals
     all_faithful = all_from (IsFaithful w) journals (λ i j hj. record {
-      fronts = to_fronts w j (λ k l. front_closed i j hj k);
-      contents = all_from (λ (e : Entry). is_opened w e.gtid ≡ false → content w e.gtid ≡ Some e.txn) j.entries (λ k e he out. equal_here i j k e hj he out);
+      fronts = to_fronts (in_order w) j (λ k l. (same_closed w _ keys_sound).0 (front_closed i j hj k));
+      contents = all_from _ j.entries (λ k e he out. same_content w e.gtid ∙ equal_here i j k e hj he out);
       new = (journal_at i j hj).new;
     })
 
@@ -294,10 +297,6 @@ nothing_chosen p es = elim (cases_Bool (list_any p es)) [ inl t ↦ inl (any_at 
     empty [] f = refl
     empty (e ∷ es) f = empty_by e es (p e) (empty es) f
 
-none_mapped : {A B : Type 0} (f : A → B) (o : Option A) → option_map f o ≡ None → o ≡ None
-none_mapped f None e = refl
-none_mapped f (Some x) e = cc
-
 -- where nothing of a source fails, what it committed applies alone
 pub alone_from_none : (world : World) (s : ℕ) → ((i : ℕ) (e : history.Entry) → slice_get (finmap.entries world.contents) i ≡ Some e → e.0.source ≡ s → option_map (λ (fault : Gtid × RowFault). DoesNotApply fault.0 fault.1) (first_fault world.schema (entries_in world (of_source e.0.source)) world.opening_rows) ≡ None) → IsOk (rows_of world (of_source s))
 alone_from_none world s none = elim (nothing_chosen (λ e. of_source s e.0) (finmap.entries world.contents)) [
@@ -321,4 +320,9 @@ sound_means_sound schema opened rows journals are e =
     let w = world_of schema opened rows journals in
     let none = next_none (found_in_keys w journals) (does_not_apply w) (none_of_sound (or_next (found_in_keys w journals) (does_not_apply w)) (next_not (found_in_keys w journals) (does_not_apply w) (keys_not w journals) (applies_not w)) e) in
     let n = nothing schema opened rows journals are none.0 in
-    (record { keys = keys_sound schema opened rows journals are n; alone = alone_here w none.1 }, all_faithful schema opened rows journals are n)
+    let keys = keys_sound schema opened rows journals are n in
+    (record { keys = keys; alone = alone_here w none.1 }, by_source w keys journals (all_faithful schema opened rows journals are n))
+  where
+    by_source : (w : World) → AreKeysSound w → (js : List JournalValue) → AllByRecursion (IsFaithful w) js → AllByRecursion (IsFaithfulBySource w) js
+    by_source w keys [] f = tt
+    by_source w keys (j ∷ js) f = ((same_faithful w j keys).1 f.0, by_source w keys js f.1)

@@ -8,6 +8,7 @@ use Rattle.std.specs.declared.cmp.Ordering.TheVariants.{Less, Equal, Greater}
 use Rattle.std.specs.Ordering.{nat_cmp, ordering_then, MatchOrdering}
 use Rattle.std.proofs.lemmas.Cmp.{ranked}
 use Rattle.std.proofs.lemmas.Bool.{eqb-true, eq-eqb, cases_Bool}
+use Rattle.lemmas.proofs.Tests.{not_both}
 use Rattle.gtid_text.specs.declared.Gtid.{Gtid}
 use Rattle.gtid_text.specs.Gtids.{gtid_cmp}
 use Rattle.rows.specs.declared.change.Key.{Key}
@@ -17,12 +18,12 @@ use Rattle.rows.specs.declared.schema.Table.{Table}
 use Rattle.rows.specs.Apply.{Rows, apply}
 use Rattle.rows.specs.WriteSet.{touches, left_by, AgreeOn, Alike}
 use Rattle.rows.proofs.Local.{bind_ok, after_apply, apply_alike}
-use Rattle.source_history.specs.World.{World, content, is_opened, of_source, entries_in, apply_all, rows_of, AreKeysSound}
-use Rattle.source_history.specs.World as history
-use Rattle.ordered_history.proofs.Commuting.{frame}
-use Rattle.ordered_history.proofs.Placing.{all_map, chosen_applies}
-use Rattle.source_history.proofs.Entries.{IsAscending, AreFound, rising, found, apart_sources}
-use Rattle.source_history.proofs.Alone.{source_closed, alone_or_together}
+use Rattle.history.specs.Sources.{World, content, of_source, entries_in, apply_all, AreKeysSound}
+use Rattle.history.specs.Sources as history
+use Rattle.history.proofs.Commuting.{frame}
+use Rattle.history.proofs.Placing.{all_map, chosen_applies}
+use Rattle.history.proofs.SourceEntries.{IsAscending, AreFound, rising, found, apart_sources}
+use Rattle.history.proofs.Alone.{source_closed, alone_or_together}
 use Rattle.world.specs.declared.verdict.Verdict.{Verdict}
 use Rattle.world.specs.declared.verdict.Verdict.TheVariants.{DoesNotApply}
 use Rattle.world.specs.Search.{or_next, first}
@@ -31,8 +32,8 @@ use Rattle.world.specs.Folds.{OnePassApplies}
 use Rattle.world.proofs.Meanings.{no_fault}
 use Rattle.world.proofs.Standing.{fails_in}
 use Rattle.world.proofs.Saying.{fault_free, applies_none}
-use Rattle.ordered_history.proofs.Closing.{is_ok_of}
-use Rattle.rows.proofs.Patching.{not_both, fits_err}
+use Rattle.history.proofs.Closing.{is_ok_of}
+use Rattle.rows.proofs.Patching.{fits_err}
 
 -- ---- rows after a part of a list
 

@@ -11,10 +11,10 @@ use Rattle.row_images.specs.Total.{row_eq_same, row_eq_self}
 use Rattle.row_images.specs.Order.{row_eq}
 use Rattle.world.specs.Equal.{name_eq, change_eq, changes_eq, txn_eq}
 use Rattle.std.proofs.lemmas.Bool.{and_parts, and_from}
-use Rattle.row_images.proofs.Equal.{eq_of}
+use Rattle.lemmas.proofs.Numbers.{equal_of}
 
 name_same : (a b : List ℕ) → name_eq a b ≡ true → a ≡ b
-name_same a b e = slice_cmp-IsAntisymmetric nat_cmp-IsAntisymmetric a b (eq_of (slice_cmp nat_cmp a b) e)
+name_same a b e = slice_cmp-IsAntisymmetric nat_cmp-IsAntisymmetric a b (equal_of (slice_cmp nat_cmp a b) e)
 
 name_self : (a : List ℕ) → name_eq a a ≡ true
 name_self a = ap is_eq (tied_itself nat_list_cmp_total a)

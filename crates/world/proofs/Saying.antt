@@ -9,33 +9,33 @@ use Rattle.std.proofs.lemmas.Bool.{eqb-true, or_cases, or_left, or_right, and_pa
 use Rattle.rows.specs.declared.change.RowFault.{RowFault}
 use Rattle.rows.specs.declared.schema.Table.{Table}
 use Rattle.rows.specs.Apply.{Rows, apply}
-use Rattle.rows.specs.WriteSet.{write_set, touches, shares_key}
+use Rattle.rows.specs.WriteSet.{write_set}
+use Rattle.rows.specs.Conflicts.{conflicts, conflicts_at, key_is_conflict, conflicts_both_ways}
 use Rattle.rows.proofs.Local.{bind_ok}
 use Rattle.gtid_text.specs.declared.Gtid.{Gtid}
 use Rattle.gtid_set.specs.Sets.{Gtids}
 use Rattle.journal.specs.declared.Entry.{Entry}
 use Rattle.journal.specs.Journals.{JournalValue}
-use Rattle.source_history.specs.World.{World, content, is_opened, of_source, entries_in, apply_all, rows_of, HasNumber, IsClosed, AreKeysSound, IsSound}
-use Rattle.source_history.specs.World as history
-use Rattle.source_history.specs.Faithful.{IsFaithful}
-use Rattle.ordered_journals.proofs.Lists.{get_take, all_at}
-use Rattle.ordered_journals.proofs.Covering.{is_entry, covered}
-use Rattle.source_history.proofs.Fronts.{front, fronts_of}
+use Rattle.history.specs.Sources.{World, content, is_opened, of_source, entries_in, apply_all, rows_of, AreKeysSound, in_order}
+use Rattle.history.specs.SourceJournals.{IsFaithful}
+use Rattle.history.proofs.Covering.{is_entry, covered, front, fronts_of}
+use Rattle.history.proofs.Same.{same_content, same_closed}
+use Rattle.history.specs.Sources as history
+use Rattle.history.specs.World as ordered
 use Rattle.world.specs.declared.verdict.Verdict.TheVariants.{Unequal, Purged, Missing, Shared, NotClosed, DoesNotApply, Sound}
 use Rattle.world.specs.Equal.{txn_eq}
 use Rattle.world.specs.Audit.{all_entries, world_of, is_content, is_unequal, unequal, purged, present, is_absent, below, missing, shared, is_left_out, not_closed, fault_after, first_fault, does_not_apply, found_in_keys}
 use Rattle.world.specs.Meaning.{FaithfulIsSound}
-use Rattle.world.proofs.Finding.{none_next, none_when, none_first, taken, range_above}
+use Rattle.world.proofs.Finding.{none_next, none_when, none_first}
 use Rattle.world.proofs.Same.{txn_self}
 use Rattle.world.proofs.Contents.{entry_at, entry_from, at_content, some_of, contents_entry}
 use Rattle.std.proofs.lemmas.Option.{same_Some, slice_get_within}
-use Rattle.std.proofs.lemmas.Map.Keys.{any_passes_from_place}
-use Rattle.rows.proofs.Patching.{not_both}
-use Rattle.rows.proofs.Lists.{get_map_cases}
-use Rattle.ordered_history.proofs.Entries.{some_is}
-use Rattle.ordered_history.proofs.Closing.{is_ok_of}
-use Rattle.ordered_history.proofs.Merging.{got}
-use Rattle.world.proofs.Gaps.{number_lt}
+use Rattle.lemmas.proofs.Numbers.{lt_of_test}
+use Rattle.lemmas.proofs.Tests.{not_both}
+use Rattle.lemmas.proofs.Lists.{get_take, all_at, taken, range_above, get_map_cases}
+use Rattle.history.proofs.Entries.{some_is}
+use Rattle.history.proofs.Closing.{is_ok_of}
+use Rattle.history.proofs.Merging.{got}
 
 module _ (schema : List Table) (opened : Gtids) (rows : Rows) (journals : List JournalValue) where
   abbrev w : World
@@ -45,7 +45,7 @@ module _ (schema : List Table) (opened : Gtids) (rows : Rows) (journals : List J
     unequal_none : unequal w journals ≡ None
     unequal_none = none_first _ journals (λ i j hj. none_first _ j.entries (λ k e he. none_when (is_unequal w e) (Unequal e.gtid) (false_from_ne_true (is_unequal w e) (λ t.
         let p = and_parts (not (is_opened w e.gtid)) (not (is_content w e)) t in
-        let c = all_at (λ (x : Entry). is_opened w x.gtid ≡ false → content w x.gtid ≡ Some x.txn) j.entries k e (all_at (IsFaithful w) journals i j faithful hj).contents he (not-true (is_opened w e.gtid) p.0) in
+        let c = sym (same_content w e.gtid) ∙ all_at (λ (x : Entry). is_opened w x.gtid ≡ false → ordered.content (in_order w) x.gtid ≡ Some x.txn) j.entries k e (all_at (IsFaithful w) journals i j faithful hj).contents he (not-true (is_opened w e.gtid) p.0) in
         not_both (is_content w e) (ap (λ o. option_map_or (txn_eq e.txn) o false) c ∙ txn_self e.txn) (not-true (is_content w e) p.1)))))
 
     purged_none : purged w journals ≡ None
@@ -71,10 +71,10 @@ module _ (schema : List Table) (opened : Gtids) (rows : Rows) (journals : List J
 
     shared_none : shared w ≡ None
     shared_none = none_first _ (finmap.entries w.contents) (λ i h hh. none_first _ (write_set schema h.1) (λ k key hk. none_first _ (finmap.entries w.contents) (λ l g hg.
-        none_when (nat_lt g.0.source h.0.source && touches schema g.1 key) (Shared g.0 h.0 key) (false_from_ne_true (nat_lt g.0.source h.0.source && touches schema g.1 key) (λ t.
-        let p = and_parts (nat_lt g.0.source h.0.source) (touches schema g.1 key) t in
-        let less = number_lt g.0.source h.0.source p.0 in
-        not_both (shares_key schema h.1 g.1) (any_passes_from_place (touches schema g.1) (write_set schema h.1) k key hk p.1)
+        none_when (nat_lt g.0.source h.0.source && conflicts_at schema g.1 h.1 key) (Shared g.0 h.0 key) (false_from_ne_true (nat_lt g.0.source h.0.source && conflicts_at schema g.1 h.1 key) (λ t.
+        let p = and_parts (nat_lt g.0.source h.0.source) (conflicts_at schema g.1 h.1 key) t in
+        let less = lt_of_test g.0.source h.0.source p.0 in
+        not_both (conflicts schema h.1 g.1) (conflicts_both_ways schema h.1 g.1 ∙ key_is_conflict schema g.1 h.1 key p.1)
         (sound.apart h.0 g.0 h.1 g.1 (at_content w i h hh) (at_content w l g hg) (λ same. omega arith)))))))
 
     closed_none : not_closed w journals ≡ None
@@ -83,15 +83,15 @@ module _ (schema : List Table) (opened : Gtids) (rows : Rows) (journals : List J
         let a = and_parts (not (is_opened w e.gtid)) _ t in
         let b = and_parts (h.0.source == e.gtid.source) _ a.1 in
         let c = and_parts (nat_lt h.0.number e.gtid.number) _ b.1 in
-        let d = and_parts (shares_key schema h.1 e.txn) (not (covered j.previous (take k j.entries) h.0)) c.1 in
-        let less = number_lt h.0.number e.gtid.number c.0 in
+        let d = and_parts (conflicts schema h.1 e.txn) (not (covered j.previous (take k j.entries) h.0)) c.1 in
+        let less = lt_of_test h.0.number e.gtid.number c.0 in
         let f = all_at (IsFaithful w) journals i j faithful hj in
         let len : k < length j.entries = slice_get_within j.entries k e he in
-        let ce = all_at (λ (x : Entry). is_opened w x.gtid ≡ false → content w x.gtid ≡ Some x.txn) j.entries k e f.contents he (not-true (is_opened w e.gtid) a.0) in
+        let ce = sym (same_content w e.gtid) ∙ all_at (λ (x : Entry). is_opened w x.gtid ≡ false → ordered.content (in_order w) x.gtid ≡ Some x.txn) j.entries k e f.contents he (not-true (is_opened w e.gtid) a.0) in
         let next = take (suc k) j.entries in
         let here = entry_from next k e (get_take j.entries (suc k) k e he (omega arith)) in
-        let with_e : front w j.previous next e.gtid ≡ true = or_right (is_opened w e.gtid) (covered j.previous next e.gtid) (or_right (set.contains j.previous e.gtid) (is_entry next e.gtid) here) in
-        let with_h = (fronts_of w j f (suc k) (omega arith)).earlier h.0 e.gtid h.1 e.txn (at_content w l h hh) ce (eqb-true h.0.source e.gtid.source b.0) less d.0 with_e in
+        let with_e : front (in_order w) j.previous next e.gtid ≡ true = or_right (is_opened w e.gtid) (covered j.previous next e.gtid) (or_right (set.contains j.previous e.gtid) (is_entry next e.gtid) here) in
+        let with_h = ((same_closed w _ sound).1 (fronts_of (in_order w) j f (suc k) (omega arith))).earlier h.0 e.gtid h.1 e.txn (at_content w l h hh) ce (eqb-true h.0.source e.gtid.source b.0) less d.0 with_e in
         let out = sound.outside h.0 (some_is (content w h.0) h.1 (at_content w l h hh)) in
         not_both (covered j.previous (take k j.entries) h.0) (elim (or_cases (is_opened w h.0) (covered j.previous next h.0) with_h) [
           | inl o ↦ not_both (is_opened w h.0) o out

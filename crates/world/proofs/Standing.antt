@@ -9,29 +9,28 @@ use Rattle.std.proofs.lemmas.Bool.{eqb-true, and_parts, not-true}
 use Rattle.rows.specs.declared.change.Transaction.{Transaction}
 use Rattle.rows.specs.declared.change.RowFault.{RowFault}
 use Rattle.rows.specs.declared.schema.Table.{Table}
-use Rattle.rows.specs.Order.{key_eq}
-use Rattle.rows.specs.Total.{key_eq_self}
 use Rattle.rows.specs.Apply.{Rows, apply, ◌>>=◌}
-use Rattle.rows.specs.WriteSet.{write_set, touches, shares_key}
+use Rattle.rows.specs.WriteSet.{write_set}
+use Rattle.rows.specs.Conflicts.{conflicts, conflicts_at}
 use Rattle.gtid_text.specs.declared.Gtid.{Gtid}
 use Rattle.journal.specs.Journals.{JournalValue}
-use Rattle.source_history.specs.World.{World, content, is_opened, of_source, entries_in, apply_all, rows_of, HasNumber, IsClosed, AreKeysSound, IsSound}
-use Rattle.source_history.specs.World as history
-use Rattle.ordered_journals.proofs.Covering.{is_entry, covered}
+use Rattle.history.specs.Sources.{World, content, is_opened, of_source, entries_in, apply_all}
+use Rattle.history.specs.Sources as history
+use Rattle.history.proofs.Covering.{is_entry, covered}
 use Rattle.world.specs.declared.verdict.Verdict.{Verdict}
 use Rattle.world.specs.declared.verdict.Verdict.TheVariants.{Unequal, Purged, Missing, Shared, NotClosed, DoesNotApply, Sound}
 use Rattle.world.specs.Search.{or_next}
 use Rattle.world.specs.Equal.{txn_eq}
 use Rattle.world.specs.Audit.{all_entries, world_of, is_content, is_unequal, unequal, purged, present, is_absent, below, missing, shared, is_left_out, not_closed, fault_after, first_fault, does_not_apply, found_in_keys}
 use Rattle.world.specs.Cases.{NamesFault, VerdictsNameFaults}
-use Rattle.world.proofs.Finding.{next_some, when_some, first_some, range_above}
+use Rattle.world.proofs.Finding.{next_some, when_some, first_some}
 use Rattle.world.proofs.Same.{txn_self}
 use Rattle.world.proofs.Contents.{at_content, contents_outside, contents_entry}
 use Rattle.std.proofs.lemmas.Option.{same_Some}
-use Rattle.std.proofs.lemmas.Map.Keys.{any_passes_from_place}
-use Rattle.rows.proofs.Patching.{not_both}
-use Rattle.rows.proofs.Lists.{none_some, map_some, get_map_cases}
-use Rattle.world.proofs.Gaps.{number_lt}
+use Rattle.lemmas.proofs.Numbers.{lt_of_test}
+use Rattle.lemmas.proofs.Options.{none_some, map_some}
+use Rattle.lemmas.proofs.Tests.{not_both}
+use Rattle.lemmas.proofs.Lists.{range_above, get_map_cases}
 
 module _ (world : World) (journals : List JournalValue) where
   pub unequal_stands : (v : Verdict) → unequal world journals ≡ Some v → NamesFault world journals v
@@ -81,16 +80,15 @@ module _ (world : World) (journals : List JournalValue) where
       let a = first_some _ (finmap.entries world.contents) v f in
       let b = first_some _ (write_set world.schema a.element.1) v a.gives in
       let g = first_some _ (finmap.entries world.contents) v b.gives in
-      let c = when_some (nat_lt g.element.0.source a.element.0.source && touches world.schema g.element.1 b.element) (Shared g.element.0 a.element.0 b.element) v g.gives in
-      let p = and_parts (nat_lt g.element.0.source a.element.0.source) (touches world.schema g.element.1 b.element) c.0 in
+      let c = when_some (nat_lt g.element.0.source a.element.0.source && conflicts_at world.schema g.element.1 a.element.1 b.element) (Shared g.element.0 a.element.0 b.element) v g.gives in
+      let p = and_parts (nat_lt g.element.0.source a.element.0.source) (conflicts_at world.schema g.element.1 a.element.1 b.element) c.0 in
       subst (NamesFault world journals) c.1 (record {
         t = g.element.1;
         u = a.element.1;
         first = at_content world g.place g.element g.there;
         second = at_content world a.place a.element a.there;
-        smaller = number_lt g.element.0.source a.element.0.source p.0;
-        touches_first = p.1;
-        touches_second = any_passes_from_place (key_eq b.element) (write_set world.schema a.element.1) b.place b.element b.there (key_eq_self b.element);
+        smaller = lt_of_test g.element.0.source a.element.0.source p.0;
+        conflict = p.1;
       })
 
   closed_stands : (v : Verdict) → not_closed world journals ≡ Some v → NamesFault world journals v
@@ -102,7 +100,7 @@ module _ (world : World) (journals : List JournalValue) where
       let p = and_parts (not (is_opened world b.element.gtid)) _ c.0 in
       let q = and_parts (g.element.0.source == b.element.gtid.source) _ p.1 in
       let r = and_parts (nat_lt g.element.0.number b.element.gtid.number) _ q.1 in
-      let s = and_parts (shares_key world.schema g.element.1 b.element.txn) (not (covered a.element.previous (take b.place a.element.entries) g.element.0)) r.1 in
+      let s = and_parts (conflicts world.schema g.element.1 b.element.txn) (not (covered a.element.previous (take b.place a.element.entries) g.element.0)) r.1 in
       subst (NamesFault world journals) c.1 (record {
         entry = b.element;
         there = record { number = a.place; journal = a.element; place = b.place; listed = a.there; there = b.there };
@@ -110,7 +108,7 @@ module _ (world : World) (journals : List JournalValue) where
         u = g.element.1;
         content = at_content world g.place g.element g.there;
         source = eqb-true g.element.0.source b.element.gtid.source q.0;
-        smaller = number_lt g.element.0.number b.element.gtid.number r.0;
+        smaller = lt_of_test g.element.0.number b.element.gtid.number r.0;
         shares = s.0;
         left_out = not-true (covered a.element.previous (take b.place a.element.entries) g.element.0) s.1;
       })

@@ -11,17 +11,19 @@ use Rattle.gtid_text.specs.Gtids.{gtid_cmp}
 use Rattle.rows.specs.declared.change.Key.{Key}
 use Rattle.rows.specs.declared.schema.Table.{Table}
 use Rattle.rows.specs.Order.{key_cmp, key_eq}
-use Rattle.rows.specs.Total.{key_total, key_eq_same}
+use Rattle.rows.specs.Total.{key_total, key_eq_same, key_eq_self}
 use Rattle.rows.specs.WriteSet.{write_set, touches, is_among}
-use Rattle.source_history.specs.World.{World}
-use Rattle.source_history.specs.World as history
-use Rattle.ordered_history.proofs.Placing.{all_map}
-use Rattle.source_history.proofs.Entries.{IsAscending, rising}
+use Rattle.history.specs.Sources.{World}
+use Rattle.history.specs.Sources as history
+use Rattle.history.proofs.Placing.{all_map}
+use Rattle.history.proofs.SourceEntries.{IsAscending, rising}
 use Rattle.world.specs.declared.verdict.Verdict.{Verdict}
 use Rattle.world.specs.declared.verdict.Verdict.TheVariants.{Shared}
 use Rattle.world.specs.Search.{or_next, when, first}
 use Rattle.world.specs.Folds.{FirstTouch, touched_by, shares_with, shared_from, OnePassShares}
 use Rattle.world.proofs.OnePass.{rising_parts, source_le}
+use Rattle.rows.specs.Conflicts.{conflicts_at, conflict_at_touched}
+use Rattle.std.proofs.lemmas.Bool.{or_left, or_right}
 
 -- ---- searches
 
@@ -166,5 +168,15 @@ module _ (schema : List Table) where
       (λ i. or_next (here i) (first (shares_in (moved i)) rest))
       ∙ ap (or_next (first (λ key. shares_with h.0 key (finmap.get seen key)) (write_set schema h.1))) (passes (before ++ h ∷ []) rest (touched_by h.0 (write_set schema h.1) seen) (subst IsAscending moved r) next)
 
+-- Where h has a key, what conflicts with it there is what touches the key.
+at_keys : (schema : List Table) (es : List history.Entry) (h : history.Entry) (keys : List Key) → ((key : Key) → is_among keys key ≡ true → touches schema h.1 key ≡ true)
+    → first (λ key. first (λ (g : history.Entry). when (nat_lt g.0.source h.0.source && conflicts_at schema g.1 h.1 key) (Shared g.0 h.0 key)) es) keys ≡ first (λ key. first (shares_at schema h key) es) keys
+at_keys schema es h [] all = refl
+at_keys schema es h (key ∷ keys) all = λ i. or_next
+    (first (λ (g : history.Entry). when (nat_lt g.0.source h.0.source && conflict_at_touched schema g.1 h.1 key (all key (or_left (key_eq key key) (is_among keys key) (key_eq_self key))) i) (Shared g.0 h.0 key)) es)
+    (at_keys schema es h keys (λ k m. all k (or_right (key_eq k key) (is_among keys k) m)) i)
+
 pub one_pass_shares : OnePassShares
-one_pass_shares world = passes world.schema [] (finmap.entries world.contents) finmap.empty (rising world) (λ k. get-empty key_cmp k)
+one_pass_shares world =
+    (λ i. first (λ (h : history.Entry). at_keys world.schema (finmap.entries world.contents) h (write_set world.schema h.1) (λ key m. m) i) (finmap.entries world.contents))
+    ∙ passes world.schema [] (finmap.entries world.contents) finmap.empty (rising world) (λ k. get-empty key_cmp k)

@@ -11,11 +11,12 @@ use Rattle.rows.specs.declared.change.Transaction.{Transaction}
 use Rattle.rows.specs.declared.change.RowFault.{RowFault}
 use Rattle.rows.specs.declared.schema.Table.{Table}
 use Rattle.rows.specs.Apply.{Rows, apply}
-use Rattle.rows.specs.WriteSet.{write_set, touches, shares_key}
+use Rattle.rows.specs.WriteSet.{write_set}
+use Rattle.rows.specs.Conflicts.{conflicts, conflicts_at}
 use Rattle.journal.specs.declared.Entry.{Entry}
 use Rattle.journal.specs.Journals.{JournalValue}
-use Rattle.source_history.specs.World.{World, content, is_opened, of_source, entries_in}
-use Rattle.source_history.specs.World as history
+use Rattle.history.specs.Sources.{World, content, is_opened, of_source, entries_in}
+use Rattle.history.specs.Sources as history
 use Rattle.world.specs.declared.verdict.Verdict.{Verdict}
 use Rattle.world.specs.declared.verdict.Verdict.TheVariants.{Unequal, Purged, Missing, Shared, NotClosed, DoesNotApply, Sound}
 use Rattle.world.specs.Search.{or_next, when, first_at, first}
@@ -82,12 +83,12 @@ missing world journals = first (λ (g : history.Entry). first (λ h. when (is_ab
 
 -- ---- Shared
 
--- The least GTID that shares a key with a smaller source, the first of its keys that is so shared, and the least GTID of a
--- smaller source that touches that key. A world's transactions are in the order of GTIDs.
+-- The least GTID that conflicts with one of a smaller source, the first of its keys at which one does, and the least GTID of a
+-- smaller source that does so there. A world's transactions are in the order of GTIDs.
 abbrev pub shared : World → Option Verdict
 shared world =
     first (λ (h : history.Entry). first (λ key. first (λ (g : history.Entry).
-    when (nat_lt g.0.source h.0.source && touches world.schema g.1 key) (Shared g.0 h.0 key))
+    when (nat_lt g.0.source h.0.source && conflicts_at world.schema g.1 h.1 key) (Shared g.0 h.0 key))
     (finmap.entries world.contents)) (write_set world.schema h.1)) (finmap.entries world.contents)
 
 -- ---- NotClosed
@@ -96,10 +97,10 @@ shared world =
 abbrev pub is_recorded_before : JournalValue → ℕ → Gtid → Bool
 is_recorded_before journal place g = set.contains journal.previous g || is_recorded_in (take place journal.entries) g
 
--- h has a smaller number of the same source and a common key, and does not come before the entry
+-- h has a smaller number of the same source, conflicts with the entry, and does not come before it
 abbrev pub is_left_out : World → JournalValue → ℕ → Entry → history.Entry → Bool
 is_left_out world journal place e h =
-    not (is_opened world e.gtid) && (h.0.source == e.gtid.source && (nat_lt h.0.number e.gtid.number && (shares_key world.schema h.1 e.txn && not (is_recorded_before journal place h.0))))
+    not (is_opened world e.gtid) && (h.0.source == e.gtid.source && (nat_lt h.0.number e.gtid.number && (conflicts world.schema h.1 e.txn && not (is_recorded_before journal place h.0))))
 
 -- the first entry for which something is left out, and the least such
 abbrev pub not_closed : World → List JournalValue → Option Verdict

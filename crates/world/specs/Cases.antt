@@ -7,11 +7,11 @@ use Rattle.rows.specs.declared.change.Key.{Key}
 use Rattle.rows.specs.declared.change.Transaction.{Transaction}
 use Rattle.rows.specs.declared.change.RowFault.{RowFault}
 use Rattle.rows.specs.Apply.{Rows, apply}
-use Rattle.rows.specs.WriteSet.{touches, shares_key}
+use Rattle.rows.specs.Conflicts.{conflicts, conflicts_at}
 use Rattle.journal.specs.declared.Entry.{Entry}
 use Rattle.journal.specs.Journals.{JournalValue}
-use Rattle.source_history.specs.World.{World, content, is_opened, of_source, entries_in, apply_all}
-use Rattle.source_history.specs.World as history
+use Rattle.history.specs.Sources.{World, content, is_opened, of_source, entries_in, apply_all}
+use Rattle.history.specs.Sources as history
 use Rattle.world.specs.declared.verdict.Verdict.{Verdict}
 use Rattle.world.specs.declared.verdict.Verdict.TheVariants.{Unequal, Purged, Missing, Shared, Reordered, NotClosed, Concurrent, DoesNotApply, Sound}
 use Rattle.world.specs.Audit.{all_entries, is_recorded_in, is_recorded_before, verdict}
@@ -50,17 +50,16 @@ pub record IsMissing (world : World) (journals : List JournalValue) (g : Gtid) :
   pub same : greater.source ≡ g.source
   pub below : g.number < greater.number
 
--- transactions of two sources touch this key
+-- transactions of two sources conflict at this key
 pub record IsShared (world : World) (g h : Gtid) (key : Key) : Type 0 where
   pub t : Transaction
   pub u : Transaction
   pub first : content world g ≡ Some t
   pub second : content world h ≡ Some u
   pub smaller : g.source < h.source
-  pub touches_first : touches world.schema t key ≡ true
-  pub touches_second : touches world.schema u key ≡ true
+  pub conflict : conflicts_at world.schema t u key ≡ true
 
--- h comes before g in its source, shares a key with it, and does not come before it in a journal
+-- h comes before g in its source, conflicts with it, and does not come before it in a journal
 pub record IsLeftOut (world : World) (journals : List JournalValue) (g h : Gtid) : Type 0 where
   pub entry : Entry
   pub there : IsEntryOf journals entry
@@ -69,7 +68,7 @@ pub record IsLeftOut (world : World) (journals : List JournalValue) (g h : Gtid)
   pub content : content world h ≡ Some u
   pub source : h.source ≡ g.source
   pub smaller : h.number < g.number
-  pub shares : shares_key world.schema u entry.txn ≡ true
+  pub shares : conflicts world.schema u entry.txn ≡ true
   pub left_out : is_recorded_before there.journal there.place h ≡ false
 
 -- after the earlier transactions of its source, taken alone, this one is refused

@@ -12,15 +12,15 @@ use Rattle.rows.specs.Apply.{Rows}
 use Rattle.gtid_set.specs.Sets.{Gtids}
 use Rattle.journal.specs.declared.Entry.{Entry}
 use Rattle.journal.specs.Journals.{JournalValue}
-use Rattle.source_history.specs.World.{World, is_opened, AreKeysSound}
-use Rattle.source_history.specs.World as history
-use Rattle.source_history.specs.LastWriter.{latest}
+use Rattle.history.specs.Sources.{World, is_opened, AreKeysSound}
+use Rattle.history.specs.Sources as history
+use Rattle.history.specs.LatestWriter.{latest}
 use Rattle.world.specs.declared.verdict.Verdict.{Verdict}
 use Rattle.world.specs.declared.verdict.Verdict.TheVariants.{Shared, NotClosed, DoesNotApply}
 use Rattle.world.specs.Search.{or_next, when, first_at, first}
 use Rattle.world.specs.Audit.{world_of, unequal, purged, shared, is_recorded_before, is_left_out, not_closed, first_fault, does_not_apply}
 
--- Where the keys are sound, one pass over all transactions finds the first that fails in its own source's list.
+-- If the keys are sound, one pass over all transactions finds the first that fails in its own source's list.
 abbrev pub OnePassApplies : Type 0
 OnePassApplies = (world : World) → AreKeysSound world
     → does_not_apply world ≡ option_map (λ fault. DoesNotApply fault.0 fault.1) (first_fault world.schema (finmap.entries world.contents) world.opening_rows)
@@ -29,7 +29,7 @@ OnePassApplies = (world : World) → AreKeysSound world
 abbrev pub FirstTouch : Type 0
 FirstTouch = finmap.FinMap key_cmp Gtid
 
--- these keys were touched by g, where nothing touched them before
+-- these keys were touched by g, unless something touched them before
 abbrev pub touched_by : Gtid → List Key → FirstTouch → FirstTouch
 touched_by g [] seen = seen
 touched_by g (key ∷ keys) seen = touched_by g keys (if finmap.contains_key seen key then seen else finmap.insert seen key g)
@@ -66,8 +66,8 @@ has_gap world journal place e =
 abbrev pub least_left_out : World → JournalValue → ℕ → Entry → Option Verdict
 least_left_out world journal place e = first (λ (h : history.Entry). when (is_left_out world journal place e h) (NotClosed e.gtid h.0)) (finmap.entries world.contents)
 
--- Where the world is that of the journals and nothing was purged, the last toucher of each key is enough to find that something
--- is left out; the others are walked only to name it.
+-- If the world is that of the journals and nothing was purged, the last toucher of each key is enough to find that something is left out;
+-- the others are walked only to name it.
 abbrev pub OnePassCloses : Type 0
 OnePassCloses = (schema : List Table) (opened : Gtids) (rows : Rows) (journals : List JournalValue)
     → unequal (world_of schema opened rows journals) journals ≡ None → purged (world_of schema opened rows journals) journals ≡ None

@@ -8,7 +8,7 @@ use Rattle.rows.specs.declared.change.RowFault.{RowFault}
 use Rattle.rows.specs.declared.change.Transaction.{Transaction}
 use Rattle.rows.specs.WriteSet.{write_set}
 use Rattle.journal.specs.Journals.{JournalValue}
-use Rattle.source_history.specs.World.{World, content, of_source, rows_of}
+use Rattle.history.specs.Sources.{World, content, of_source, rows_of}
 use Rattle.world.specs.declared.verdict.Verdict.TheVariants.{Missing, Shared, DoesNotApply}
 use Rattle.world.specs.Audit.{missing, shared, does_not_apply}
 use Rattle.world.specs.Cases.{IsMissing, IsShared}
@@ -18,7 +18,7 @@ abbrev pub MissingIsLeast : Type 0
 MissingIsLeast = (world : World) (journals : List JournalValue) (g : Gtid) → missing world journals ≡ Some (Missing g)
     → (h : Gtid) → IsMissing world journals h → gtid_cmp h g ≢ Less
 
--- No lesser GTID shares a key with a smaller source, no earlier key of it is shared, and no lesser GTID touches that key.
+-- No lesser GTID conflicts with one of a smaller source, this one at no earlier key of its own, and at that key with no lesser GTID.
 pub record IsLeastShared (world : World) (g h : Gtid) (key : Key) : Type 0 where
   pub second : (a b : Gtid) (k : Key) → IsShared world a b k → gtid_cmp b h ≢ Less
   pub u : Transaction

@@ -5,3 +5,8 @@ pub mod Cases
 pub mod Meaning
 pub mod Folds
 pub mod Least
+pub mod Bundles
+pub mod AuditInOrder
+pub mod CasesInOrder
+pub mod MeaningInOrder
+pub mod Exact

@@ -4,19 +4,18 @@ ghost use Rattle.world.specs.Folds.{OnePassApplies, OnePassShares, OnePassCloses
 ghost use Rattle.world.specs.Least.{MissingIsLeast, SharedIsLeast, FirstSourceFails};
 ghost use Rattle.world.specs.Meaning.{SoundMeansSound, FaithfulIsSound, KeysSoundMeans};
 
-/// Where the audit of journals reports Sound, their world is sound and each journal is faithful.
+/// If the audit of journals reports Sound, their world is sound and each journal is faithful.
 pub fn sound_means_sound()
     ensures { SoundMeansSound }
 {}
 
-/// The other way, where each journal's previous set lies within the opening set. Without that the
-/// converse is false: a journal that begins where another ends is faithful, and is reported as Purged.
+/// The other way, if each journal's previous set lies within the opening set. Without that the converse is false: a journal that begins
+/// where another ends is faithful, and is reported as Purged.
 pub fn faithful_is_sound()
     ensures { FaithfulIsSound }
 {}
 
-/// Where the audit of keys reports Sound, the keys of the journals' world are sound, and each journal
-/// is faithful.
+/// If the audit of keys reports Sound, the keys of the journals' world are sound, and each journal is faithful.
 pub fn keys_sound_mean()
     ensures { KeysSoundMeans }
 {}
@@ -26,8 +25,8 @@ pub fn verdicts_name_faults()
     ensures { VerdictsNameFaults }
 {}
 
-/// Where the keys are sound, one pass over all transactions, in the order of GTIDs, finds the first
-/// that fails in its own source's list taken alone.
+/// If the keys are sound, one pass over all transactions, in the order of GTIDs, finds the first that fails in its own source's list taken
+/// alone.
 pub fn one_pass_applies()
     ensures { OnePassApplies }
 {}
@@ -37,8 +36,8 @@ pub fn one_pass_shares()
     ensures { OnePassShares }
 {}
 
-/// Where the world is that of the journals and nothing was purged, the last toucher of each key is
-/// enough to find that something is left out of a journal.
+/// If the world is that of the journals and nothing was purged, the last toucher of each key is enough to find that something is left out
+/// of a journal.
 pub fn one_pass_closes()
     ensures { OnePassCloses }
 {}
@@ -54,8 +53,7 @@ pub fn shared_is_least()
     ensures { SharedIsLeast }
 {}
 
-/// Where a GTID is reported as DoesNotApply, what each smaller source than its own committed applies
-/// alone.
+/// If a GTID is reported as DoesNotApply, what each source smaller than its own committed applies alone.
 pub fn first_source_fails()
     ensures { FirstSourceFails }
 {}

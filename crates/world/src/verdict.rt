@@ -21,8 +21,8 @@ pub enum Verdict {
     /// An entry that is in a journal without an earlier one of its source that shares a key; in the
     /// audit in one order, without one that shares a key and comes before it in another journal.
     NotClosed(Gtid, Gtid),
-    /// Two GTIDs that share a key, each in a journal that has not the other, where neither journal has
-    /// both. Only the audit in one order reports it.
+    /// Two GTIDs that share a key, each in a journal that lacks the other, if neither journal has both. Only the audit in one order reports
+    /// it.
     Concurrent(Gtid, Gtid, Key),
     /// A transaction that does not apply after the earlier ones of its source.
     DoesNotApply(Gtid, RowFault),

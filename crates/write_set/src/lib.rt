@@ -27,7 +27,7 @@ pub use rows::{Footprint, InstallOutcome, Patch, prepare};
 use rows::{Key, Schema, Transaction, keys_touched};
 use std::alloc::{AllocError, Global};
 
-/// So many keys are compared with one another; more are hashed. Our own rule.
+/// Up to this many keys are compared with one another; more are hashed. Our own rule.
 const FEW: usize = 8;
 
 /// All keys that a before image or an after image carries, each once, in the order of first touch: for each change the
@@ -71,7 +71,7 @@ fn is_among(keys: &[Key], key: &Key) -> bool
     keys.iter().any(|other| *key == *other)
 }
 
-/// Puts a key at the end of a list, unless it is there.
+/// Appends a key to a list, unless it is there.
 fn add(list: &mut Vec<Key>, key: Key) -> Result<(), AllocError>
     ensures { OnOk result (list.new.items ≡ add_key list.old.items key) }
 {

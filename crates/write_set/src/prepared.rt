@@ -1,4 +1,4 @@
-//! Footprints of write sets, and patches that are installed where they are still valid.
+//! Footprints of write sets, and patches that are installed if they are still valid.
 
 ghost use Rattle.std.specs.Prelude.{◌≡◌, IfOk, Ok, OnErr};
 ghost use Rattle.rows.specs.Apply.{apply};

@@ -1,9 +1,9 @@
 use Rattle.std.proofs.Common.{ap, ◌∙◌}
+use Rattle.lemmas.proofs.Options.{if_ok}
 use Rattle.rows.specs.WriteSet.{write_set}
 use Rattle.write_set.specs.FirstTouch.{each_once}
 use Rattle.write_set.proofs.Firsts.{once_members, once_pairs}
 use Rattle.write_set.proofs.list_keys.Goals as goal
-use Rattle.rows.proofs.Lists.{if_ok}
 
 pub returns-then-len-le-FEW-clause-members : goal.returns-then-len-le-FEW-clause-members
 returns-then-len-le-FEW-clause-members c =

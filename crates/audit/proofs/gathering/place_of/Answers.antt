@@ -1,9 +1,9 @@
 use Rattle.std.proofs.Common.{◌≡◌, ◌<◌, sym, ◌∙◌, arith}
 use Rattle.std.proofs.lemmas.Bool.{eqb-true, eq-eqb}
 use Rattle.std.proofs.lemmas.Option.{slice_get_within}
-use Rattle.ordered_journals.proofs.Lists.{get_take}
-use Rattle.rows.proofs.Lists.{none_some}
-use Rattle.rows.proofs.Patching.{not_both}
+use Rattle.lemmas.proofs.Tests.{not_both}
+use Rattle.lemmas.proofs.Options.{none_some}
+use Rattle.lemmas.proofs.Lists.{get_take}
 use Rattle.audit.specs.Gathering.{Run}
 use Rattle.audit.proofs.Gatherings.{none_further}
 use Rattle.audit.proofs.Rising.{get_here}

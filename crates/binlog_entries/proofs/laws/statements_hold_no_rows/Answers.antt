@@ -2,8 +2,8 @@ use Rattle.std.proofs.Common.{◌≡◌, true, refl, inl, inr, ◌⊎◌}
 use Rattle.binlog_entries.specs.Bodies.{takes}
 use Rattle.binlog_entries.specs.declared.bodies.Body.{Body}
 use Rattle.binlog_entries.specs.declared.bodies.Body.TheVariants as bodies
-use Rattle.binlog_entries.specs.declared.bodies.Kind.{Kind}
-use Rattle.binlog_entries.specs.declared.bodies.Kind.TheVariants as kinds
+use Rattle.binlog_entries.specs.declared.bodies.BodyKind.{BodyKind}
+use Rattle.binlog_entries.specs.declared.bodies.BodyKind.TheVariants as kinds
 use Rattle.binlog_entries.proofs.laws.statements_hold_no_rows.Goals as goal
 
 rows : (body : Body) → takes body kinds.Row ≡ true → (body ≡ bodies.Rows) ⊎ (body ≡ bodies.RowsDue)
@@ -11,7 +11,7 @@ rows bodies.Rows e = inl refl
 rows bodies.RowsDue e = inr refl
 rows _ e = absurd cc
 
-statements : (kind : Kind) → takes bodies.Query kind ≡ true → (kind ≡ kinds.Setting) ⊎ (kind ≡ kinds.Statement)
+statements : (kind : BodyKind) → takes bodies.Query kind ≡ true → (kind ≡ kinds.Setting) ⊎ (kind ≡ kinds.Statement)
 statements kinds.Setting e = inl refl
 statements kinds.Statement e = inr refl
 statements _ e = absurd cc

@@ -1,10 +1,11 @@
 use Rattle.std.proofs.Common.{◌++◌, [], sym, subst, ◌∙◌, refl}
 use Rattle.gtid_set.specs.declared.combine.Operation.TheVariants.{Union}
 use Rattle.std.proofs.lemmas.List.{nil_from_length}
+use Rattle.lemmas.proofs.Tests.{or_none}
 use Rattle.gtid_set.specs.Spans.{has, set_of}
 use Rattle.gtid_set.specs.Kept.{spans_as}
 use Rattle.gtid_set.proofs.SetLemmas.{contains-set_of}
-use Rattle.gtid_set.proofs.CombineLemmas.{IsMaking, none_made, made_fits, made_long, all_made, kept_short, or_none}
+use Rattle.gtid_set.proofs.CombineLemmas.{IsMaking, none_made, made_fits, made_long, all_made, kept_short}
 use Rattle.gtid_set.proofs.GatherLemmas.{rises_from, gathered_more, gathered_shorter}
 use Rattle.gtid_set.proofs.gather.gather.Goals as goal
 

@@ -5,7 +5,7 @@ use Rattle.std.proofs.lemmas.Bool.Decides.{nat_tests}
 use Rattle.interval_pool.specs.Values.{PoolValue, slot_at, Released}
 use Rattle.gtid_set.specs.Order.{index_of}
 use Rattle.interval_pool.specs.declared.interval.Interval.{Interval}
-use Rattle.gtid_set.specs.declared.sources.Source.{Source}
+use Rattle.gtid_set.specs.declared.sources.SourceList.{SourceList}
 use Rattle.gtid_set.specs.Kept.{Lists, Grown, Stays, HasSameLists}
 use Rattle.gtid_set.proofs.KeptGrowth.{grown_with, kept_again, fits_grown, unknown_fits, unknown_full, fault_with}
 use Rattle.gtid_set.proofs.kept.insert.Goals as goal
@@ -30,7 +30,7 @@ grown c =
     let sources = c.args.sources.now.items in
     let order = concat c.args.order.now.items in
     let at = index_of c.args.order.now.items c.args.at in
-    let s : Source = record { id = c.args.span.now.source; list = c.in-Ok-open_list.list } in
+    let s : SourceList = record { id = c.args.span.now.source; list = c.in-Ok-open_list.list } in
     let long = ap length c.as_slice-count.ensures.value in
     let many = c.requires.kept.as_many in
     let few = c.requires.kept.few in
@@ -38,7 +38,7 @@ grown c =
     let pushed : c.push_reserved.new.self.items ≡ sources ++ s ∷ [] = c.push_reserved.ensures.items ∙ ap (λ xs. xs ++ s ∷ []) c.reserve.ensures.items in
     let placed : concat c.put.new.order.items ≡ take at order ++ length sources ∷ drop at order = c.in-Ok-put.ensures.ok ∙ ap (insert order at) long in
     let law = c.partition.ensures in
-    let P : List Source → List ℕ → Type 0 = λ ss is. Grown p sources order c.args.span.now c.open_list.new.pool ss is in
+    let P : List SourceList → List ℕ → Type 0 = λ ss is. Grown p sources order c.args.span.now c.open_list.new.pool ss is in
     subst (λ is. P c.push_reserved.new.self.items is) (sym placed) (subst (λ ss. P ss (take at order ++ length sources ∷ drop at order)) (sym pushed)
     (grown_with p c.open_list.new.pool sources order at c.in-Ok-open_list.list c.args.span.now c.requires.kept c.requires.place c.requires.new c.requires.filled (omega (arith, long, many, few)) lists
     (record { small = law.small; merged = law.merged; parted = law.parted })))
@@ -69,7 +69,7 @@ pub returns-in-Err-put-clause-err : goal.returns-in-Err-put-clause-err
 returns-in-Err-put-clause-err c =
     let lists = c.in-Ok-open_list.ensures.ok in
     let same = given_up c.args.pool.now c.open_list.new.pool c.release.new.self c.in-Ok-open_list.list _ lists c.release.ensures in
-    let P : List Source → List ℕ → Type 0 = λ ss is. Stays c.args.pool.now c.args.sources.now.items (concat c.args.order.now.items) c.release.new.self ss is in
+    let P : List SourceList → List ℕ → Type 0 = λ ss is. Stays c.args.pool.now c.args.sources.now.items (concat c.args.order.now.items) c.release.new.self ss is in
     subst (λ ss. P ss (concat c.put.new.order.items)) (sym c.reserve.ensures.items) (subst (P c.args.sources.now.items) (sym c.in-Err-put.ensures.err)
     (kept_again c.args.pool.now c.release.new.self c.args.sources.now.items (concat c.args.order.now.items) same c.requires.kept))
 

@@ -1,13 +1,13 @@
 use Rattle.std.proofs.Common.{◌≡◌, ◌+◌, ◌-◌, length, take, ap, subst, arith, List, ℕ}
 use Rattle.std.specs.List.{concat}
-use Rattle.gtid_set.specs.declared.sources.Source.{Source}
+use Rattle.gtid_set.specs.declared.sources.SourceList.{SourceList}
 use Rattle.gtid_set.specs.Kept.{sources_at, IsSourcePlace, IsNoSourceAt}
 use Rattle.gtid_set.proofs.OrderLemmas.{take_all}
 use Rattle.gtid_set.proofs.KeptGrowth.{ends_at}
 use Rattle.gtid_set.proofs.kept.push.Goals as goal
 
 -- what was found of the slices, for the vectors
-none_found : (sources sources' : List Source) (order order' : List (List ℕ)) (id : ℕ) → sources' ≡ sources → order' ≡ order → IsNoSourceAt (sources_at sources' (concat order')) (length (concat order') - 1) id → IsNoSourceAt (sources_at sources (concat order)) (length (concat order) - 1) id
+none_found : (sources sources' : List SourceList) (order order' : List (List ℕ)) (id : ℕ) → sources' ≡ sources → order' ≡ order → IsNoSourceAt (sources_at sources' (concat order')) (length (concat order') - 1) id → IsNoSourceAt (sources_at sources (concat order)) (length (concat order) - 1) id
 none_found sources sources' order order' id s o none =
     subst (λ is. IsNoSourceAt (sources_at sources (concat is)) (length (concat is) - 1) id) o (subst (λ ss. IsNoSourceAt (sources_at ss (concat order')) (length (concat order') - 1) id) s none)
 

@@ -1,6 +1,6 @@
 use Rattle.std.proofs.Common.{rules, ◌≡◌, ◌≢◌, sym, subst}
 use Rattle.std.specs.List.{concat}
-use Rattle.gtid_set.specs.declared.sources.Source.{Source}
+use Rattle.gtid_set.specs.declared.sources.SourceList.{SourceList}
 use Rattle.gtid_set.specs.Kept.{sources_at, source_at, IsSourceAt}
 use Rattle.gtid_set.specs.Order.{index_of}
 use Rattle.gtid_set.proofs.BlockLemmas.{inside_got, found_at, other_at}
@@ -17,5 +17,5 @@ returns-then-ne-clause-none c =
 pub returns-clause-some : goal.returns-clause-some
 returns-clause-some c =
     let same : (source_at c.args.sources.now c.in-Some.place).id ≡ c.args.id = search rules in
-    subst (λ (s : Source). IsSourceAt (sources_at c.args.sources.now (concat c.args.order.now)) (index_of c.args.order.now c.args.at) c.args.id s) (sym c.source_of-source.ensures)
+    subst (λ (s : SourceList). IsSourceAt (sources_at c.args.sources.now (concat c.args.order.now)) (index_of c.args.order.now c.args.at) c.args.id s) (sym c.source_of-source.ensures)
     (found_at c.args.sources.now (concat c.args.order.now) (index_of c.args.order.now c.args.at) c.in-Some.place c.args.id c.in-Some.ensures.some same)

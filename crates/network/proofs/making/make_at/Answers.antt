@@ -1,6 +1,6 @@
-use Rattle.rows.proofs.Lists.{if_ok}
 use Rattle.network.proofs.NetworkLemmas.{makes_at, faults_at, rooms_at}
 use Rattle.network.proofs.making.make_at.Goals as goal
+use Rattle.lemmas.proofs.Options.{if_ok}
 
 pub returns-clause-ok : goal.returns-clause-ok
 returns-clause-ok c =

@@ -3,8 +3,8 @@ use Rattle.std.specs.Prelude.{slice_get, slice_set}
 use Rattle.std.proofs.lemmas.Option.{slice_get_read}
 use Rattle.network.specs.Reading.{AreRead}
 use Rattle.std.specs.FinMap as finmap
+use Rattle.lemmas.proofs.Options.{if_ok}
 use Rattle.replica_core.specs.declared.event.Event.TheVariants as event
-use Rattle.rows.proofs.Lists.{if_ok}
 use Rattle.network.proofs.NetworkLemmas.{makes_at, faults_at, rooms_at}
 use Rattle.network.proofs.ReadingLemmas.{position_keeps}
 use Rattle.network.proofs.making.position_at.Goals as goal

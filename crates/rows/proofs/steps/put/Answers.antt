@@ -1,6 +1,6 @@
 use Rattle.std.proofs.Common.{[], ◌∷◌, ◌++◌, List, sym, ap, subst, ◌∙◌}
 use Rattle.std.specs.FinMap as map
-use Rattle.rows.specs.declared.steps.Step.{Step}
+use Rattle.rows.specs.declared.steps.EntryStep.{EntryStep}
 use Rattle.rows.specs.Steps.{Entries, IsExpected, all_undone, rows_in, step_of, undone}
 use Rattle.rows.proofs.Hashed.{hashed_put, get_hashed}
 use Rattle.rows.proofs.StepLemmas.{all_undone_last, undone_put}
@@ -21,7 +21,7 @@ pub returns-clause-back : goal.returns-clause-back
 returns-clause-back c =
     let es = c.insert_full.new.self.entries in
     let log = c.args.log.now.items in
-    ap (λ (l : List Step). all_undone l es) (c.note.ensures ∙ ap (λ (l : List Step). l ++ c.step_of.result ∷ []) c.make_room.ensures.log)
+    ap (λ (l : List EntryStep). all_undone l es) (c.note.ensures ∙ ap (λ (l : List EntryStep). l ++ c.step_of.result ∷ []) c.make_room.ensures.log)
     ∙ all_undone_last log c.step_of.result es
     ∙ ap (all_undone log)
     (ap (λ s. undone s es) (c.step_of.ensures ∙ ap (λ n. step_of n c.in-Ok-insert_full.over) c.in-Ok-insert_full.ensures.index)

@@ -1,7 +1,7 @@
 use Rattle.std.proofs.Common.{[], ◌∷◌, ◌++◌, List, sym, ap, subst, ◌∙◌}
 use Rattle.std.specs.FinMap as map
-use Rattle.rows.specs.declared.steps.Step.{Step}
-use Rattle.rows.specs.declared.steps.Step.TheVariants.{Removed}
+use Rattle.rows.specs.declared.steps.EntryStep.{EntryStep}
+use Rattle.rows.specs.declared.steps.EntryStep.TheVariants.{Removed}
 use Rattle.rows.specs.Steps.{Entries, IsExpected, all_undone, rows_in}
 use Rattle.rows.proofs.Hashed.{hashed_taken, get_hashed}
 use Rattle.rows.proofs.StepLemmas.{all_undone_last, undone_removed}
@@ -33,8 +33,8 @@ pub returns-clause-back : goal.returns-clause-back
 returns-clause-back c =
     let es = c.swap_remove_full.new.self.entries in
     let log = c.args.log.now.items in
-    let step : Step = Removed c.in-Some.place c.in-Some.key c.in-Some.row in
-    ap (λ (l : List Step). all_undone l es) (c.note.ensures ∙ ap (λ (l : List Step). l ++ step ∷ []) c.make_room.ensures.log)
+    let step : EntryStep = Removed c.in-Some.place c.in-Some.key c.in-Some.row in
+    ap (λ (l : List EntryStep). all_undone l es) (c.note.ensures ∙ ap (λ (l : List EntryStep). l ++ step ∷ []) c.make_room.ensures.log)
     ∙ all_undone_last log step es
     ∙ ap (all_undone log)
     (undone_removed c.make_room.new.carriers.entries es c.args.key.now c.in-Some.key c.in-Some.row c.in-Some.place c.in-Some.ensures.index c.in-Some.ensures.key c.in-Some.ensures.value c.swap_remove_full.ensures.entries c.swap_remove_full.ensures.updates.0

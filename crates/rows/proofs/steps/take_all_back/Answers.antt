@@ -1,5 +1,5 @@
 use Rattle.std.proofs.Common.{◌≡◌, ◌+◌, List, length, sym, ap, ◌∙◌, arith}
-use Rattle.rows.specs.declared.steps.Step.{Step}
+use Rattle.rows.specs.declared.steps.EntryStep.{EntryStep}
 use Rattle.rows.specs.Steps.{all_undone}
 use Rattle.rows.proofs.StepLemmas.{all_undone_last, one_fewer}
 use Rattle.rows.proofs.steps.take_all_back.Goals as goal
@@ -9,7 +9,7 @@ loop-step-preserved c =
     let rest : length c.loop-step.log.items ≡ length c.pop.new.self.items + 1 = one_fewer c.loop-step.log.items c.pop.new.self.items c.in-Some.step c.in-Some.ensures.items in (
       ap (all_undone c.pop.new.self.items) c.take_back.ensures.entries
           ∙ sym (all_undone_last c.pop.new.self.items c.in-Some.step c.loop-step.carriers.entries)
-          ∙ ap (λ (l : List Step). all_undone l c.loop-step.carriers.entries) (sym c.in-Some.ensures.items)
+          ∙ ap (λ (l : List EntryStep). all_undone l c.loop-step.carriers.entries) (sym c.in-Some.ensures.items)
           ∙ c.loop-step.invariant.0,
       omega (rest, c.loop-step.invariant.1, c.take_back.ensures.spare, arith),
     )

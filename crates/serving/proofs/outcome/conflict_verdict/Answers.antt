@@ -1,6 +1,6 @@
 use Rattle.std.proofs.Common.{ap}
 use Rattle.std.proofs.lemmas.Result.{IfErr-weaker}
-use Rattle.source_history.specs.World.{World}
+use Rattle.history.specs.Sources.{World}
 use Rattle.audit.specs.Faults.{IsAuditFault}
 use Rattle.serving.specs.Faults.{IsVerdictFault}
 use Rattle.serving.proofs.Knowing.{verdict_fault}

@@ -1,5 +1,5 @@
 use Rattle.std.proofs.Common.{◌≡◌, map, drop}
-use Rattle.source_history.specs.World.{apply_all}
+use Rattle.history.specs.Sources.{apply_all}
 use Rattle.source_shares.specs.Shares.{is_in_share, of_share}
 use Rattle.source_shares.proofs.applying.apply_each.Given as goal
 

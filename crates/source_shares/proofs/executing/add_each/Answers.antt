@@ -1,6 +1,6 @@
 use Rattle.std.proofs.Common.{◌≡◌, ◌∷◌, ◌+◌, suc, drop, ap, sym, ◌∙◌, arith}
 use Rattle.std.proofs.Math.Seq.{drop-cons}
-use Rattle.ordered_replicas.specs.Deciding.{all_of}
+use Rattle.convergence.specs.Deciding.{all_of}
 use Rattle.journal.specs.Journals.{JournalValue, whole}
 use Rattle.source_shares.proofs.Unions.{all_more}
 use Rattle.source_shares.proofs.executing.add_each.Goals as goal

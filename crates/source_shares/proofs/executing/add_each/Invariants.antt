@@ -1,5 +1,5 @@
 use Rattle.std.proofs.Common.{◌≡◌, drop}
-use Rattle.ordered_replicas.specs.Deciding.{all_of}
+use Rattle.convergence.specs.Deciding.{all_of}
 use Rattle.source_shares.proofs.executing.add_each.Given as goal
 
 abbrev pub invariant-loop-journal : goal.invariant-loop-journal

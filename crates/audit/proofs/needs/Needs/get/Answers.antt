@@ -1,11 +1,11 @@
 use Rattle.std.proofs.Common.{sym, ap, ◌∙◌}
 use Rattle.std.specs.FinMap as map
+use Rattle.lemmas.proofs.SameGtid.{gtid_total}
 use Rattle.gtid_text.specs.Gtids.{gtid_cmp, same_gtid}
 use Rattle.gtid_set.proofs.SetLemmas.{gtid_tied}
 use Rattle.audit.proofs.Stored.{get-stored}
 use Rattle.audit.proofs.Hashed.{hashed_at}
 use Rattle.audit.proofs.needs.Needs.get.Goals as goal
-use Rattle.gtid_text.proofs.SameGtid.{gtid_total}
 
 pub returns : goal.returns
 returns c =

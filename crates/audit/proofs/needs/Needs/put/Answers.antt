@@ -1,10 +1,10 @@
 use Rattle.std.proofs.Common.{ap, sym, ◌∙◌}
 use Rattle.std.specs.FinMap as map
+use Rattle.lemmas.proofs.SameGtid.{gtid_total, gtid_exact}
 use Rattle.gtid_text.specs.Gtids.{gtid_cmp, same_gtid}
 use Rattle.gtid_set.proofs.SetLemmas.{gtid_tied}
 use Rattle.audit.proofs.Hashed.{hashed_put}
 use Rattle.audit.proofs.needs.Needs.put.Goals as goal
-use Rattle.gtid_text.proofs.SameGtid.{gtid_total, gtid_exact}
 
 pub returns-in-Ok : goal.returns-in-Ok
 returns-in-Ok c =

@@ -4,7 +4,7 @@ use Rattle.std.proofs.lemmas.Result.{IfOk-weaker}
 use Rattle.rows.specs.declared.schema.Table.{Table}
 use Rattle.rows.specs.Apply.{Rows}
 use Rattle.rows.specs.Database.{Database}
-use Rattle.source_history.specs.World as history
+use Rattle.history.specs.Sources as history
 use Rattle.world.specs.declared.verdict.Verdict.{Verdict}
 use Rattle.world.specs.declared.verdict.Verdict.TheVariants.{DoesNotApply}
 use Rattle.world.specs.Audit.{first_fault}

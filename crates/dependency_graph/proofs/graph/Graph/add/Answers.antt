@@ -4,7 +4,7 @@ use Rattle.dependency_graph.specs.Kept.{LinksAll, CountsAll}
 use Rattle.dependency_graph.proofs.Kept.{length_points}
 use Rattle.dependency_graph.proofs.Entries.{distinct_of}
 use Rattle.dependency_graph.proofs.Adding.{kept_reserved, kept_pushed, points_pushed, read_last}
-use Rattle.dependency_graph.specs.declared.graph.Node.{Node}
+use Rattle.dependency_graph.specs.declared.graph.GraphNode.{GraphNode}
 use Rattle.std.specs.Prelude.{nat_eq}
 use Rattle.std.specs.List.{AllPairs}
 use Rattle.dependency_graph.specs.Held.{IsHeld}
@@ -36,9 +36,9 @@ invariant_of-self-in_err-make_room c =
 pub link-waits-requires-clause-distinct : goal.link-waits-requires-clause-distinct
 link-waits-requires-clause-distinct c =
     let nodes = c.self.inside.nodes.items in
-    let node : Node = record { finished = false; waits = 0; keys = c.args.keys } in
+    let node : GraphNode = record { finished = false; waits = 0; keys = c.args.keys } in
     let at : c.len-at.result ≡ length nodes = search rules in
-    let keys : c.deref-2.result.now ≡ c.args.keys.items = c.deref-2.ensures.value ∙ ap (λ (n : Node). n.keys.items) (read_last nodes c.push_back.new.self.items node c.index.result.now c.len-at.result at c.in_ok-push_back.ensures.items c.index.ensures) in
+    let keys : c.deref-2.result.now ≡ c.args.keys.items = c.deref-2.ensures.value ∙ ap (λ (n : GraphNode). n.keys.items) (read_last nodes c.push_back.new.self.items node c.index.result.now c.len-at.result at c.in_ok-push_back.ensures.items c.index.ensures) in
     subst (AllPairs (λ a b. a ≢ b)) (sym keys) c.requires.distinct
 
 pub invariant_of-self-in_err-push_back : goal.invariant_of-self-in_err-push_back
@@ -54,10 +54,10 @@ pub invariant_of-self-2 : goal.invariant_of-self-2
 invariant_of-self-2 c =
     let d = c.self.inside.dropped in
     let nodes = c.self.inside.nodes.items in
-    let node : Node = record { finished = false; waits = 0; keys = c.args.keys } in
+    let node : GraphNode = record { finished = false; waits = 0; keys = c.args.keys } in
     let at : c.len-at.result ≡ length nodes = search rules in
     let pushed = c.in_ok-push_back.ensures.items in
-    let keys : c.deref-2.result.now ≡ c.args.keys.items = c.deref-2.ensures.value ∙ ap (λ (n : Node). n.keys.items) (read_last nodes c.push_back.new.self.items node c.index.result.now c.len-at.result at pushed c.index.ensures) in
+    let keys : c.deref-2.result.now ≡ c.args.keys.items = c.deref-2.ensures.value ∙ ap (λ (n : GraphNode). n.keys.items) (read_last nodes c.push_back.new.self.items node c.index.result.now c.len-at.result at pushed c.index.ensures) in
     let size = length_points d nodes in
     let same = ap length c.self.view_is in
     let few : d + c.len-at.result < 4294967294 = omega (at, size, same, c.requires.room, arith) in
@@ -71,7 +71,7 @@ invariant_of-self-2 c =
           (subst (λ ks. CountsAll c.reserve.new.self ks (d + c.len-at.result) c.link-waits.result) keys c.link-waits.ensures.waits);
       listed =
           listed_pushed d nodes c.push_back.new.self.items node (record c.index_mut.result.now { waits = c.link-waits.result }) c.len-at.result c.make_room.new.ready c.insert_if.new.self (nat_eq c.link-waits.result 0) at pushed
-          (ap (λ (n : Node). not n.finished && nat_eq c.link-waits.result 0) read)
+          (ap (λ (n : GraphNode). not n.finished && nat_eq c.link-waits.result 0) read)
           (subst (λ n. IsListing c.make_room.new.ready d (d + n + 1) (is_unblocked_at d nodes)) (sym at) (c.in_ok-make_room.ensures.room c.self.invariant.listed))
           c.insert_if.ensures;
     }
@@ -80,7 +80,7 @@ pub returns-clause-added : goal.returns-clause-added
 returns-clause-added c =
     let d = c.self.inside.dropped in
     let nodes = c.self.inside.nodes.items in
-    let node : Node = record { finished = false; waits = 0; keys = c.args.keys } in
+    let node : GraphNode = record { finished = false; waits = 0; keys = c.args.keys } in
     let at : c.len-at.result ≡ length nodes = search rules in
     points_pushed d nodes c.push_back.new.self.items node c.index_mut.result.now c.len-at.result c.args.keys.items c.link-waits.result at c.in_ok-push_back.ensures.items c.index_mut.ensures.value refl refl
     ∙ ap (λ ps. ps ++ unfinished c.args.keys.items ∷ []) c.self.view_is

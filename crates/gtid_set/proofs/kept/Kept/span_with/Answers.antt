@@ -4,7 +4,7 @@ use Rattle.std.specs.List.{concat}
 use Rattle.std.proofs.lemmas.Bool.{and_parts}
 use Rattle.interval_pool.specs.Values.{is_list, spans}
 use Rattle.gtid_text.specs.declared.Span.{Span}
-use Rattle.gtid_set.specs.declared.sources.Source.{Source}
+use Rattle.gtid_set.specs.declared.sources.SourceList.{SourceList}
 use Rattle.gtid_set.specs.Spans.{has}
 use Rattle.gtid_set.specs.Sweep.{HasSpan}
 use Rattle.gtid_set.specs.Kept.{sources_at, is_filled, are_others, IsSourceOf}
@@ -16,13 +16,13 @@ use Rattle.gtid_set.proofs.kept.Kept.span_with.Goals as goal
 pub returns-in_default-clause-none : goal.returns-in_default-clause-none
 returns-in_default-clause-none c =
     let ss = sources_at c.self.inside.sources.items (concat c.self.inside.order.items) in
-    let P : List Source → List (List ℕ) → Type 0 = λ sources order. are_others c.args.gtid.now.source (sources_at sources (concat order)) ≡ true in
+    let P : List SourceList → List (List ℕ) → Type 0 = λ sources order. are_others c.args.gtid.now.source (sources_at sources (concat order)) ≡ true in
     let others : are_others c.args.gtid.now.source ss ≡ true = subst (λ order. P c.self.inside.sources.items order) c.deref-2.ensures.value (subst (λ sources. P sources c.deref-2.result.now) c.deref.ensures.value c.in_default.ensures.none) in
     ap (λ xs. has xs c.args.gtid.now) (sym c.self.view_is) ∙ has_spans_of c.self.inside.pool ss c.args.gtid.now ∙ knows_none c.self.inside.pool ss c.args.gtid.now others
 
 there : (c : goal.After-partition) → IsSourceOf (sources_at c.self.inside.sources.items (concat c.self.inside.order.items)) c.in-Some.source c.args.gtid.now.source
 there c =
-    let P : List Source → List (List ℕ) → Type 0 = λ sources order. IsSourceOf (sources_at sources (concat order)) c.in-Some.source c.args.gtid.now.source in
+    let P : List SourceList → List (List ℕ) → Type 0 = λ sources order. IsSourceOf (sources_at sources (concat order)) c.in-Some.source c.args.gtid.now.source in
     subst (λ order. P c.self.inside.sources.items order) c.deref-2.ensures.value (subst (λ sources. P sources c.deref-2.result.now) c.deref.ensures.value c.in-Some.ensures.some)
 
 pub interval_with-requires : goal.interval_with-requires

@@ -1,9 +1,9 @@
 use Rattle.std.proofs.Common.{◌≡◌, ◌+◌, ◌++◌, List, [], ◌∷◌, ℕ, inl, inr, map, take, length, length-append, ap, sym, ◌∙◌, arith}
 use Rattle.std.specs.Prelude.{slice_get}
 use Rattle.std.proofs.lemmas.List.{take_more, map_push}
+use Rattle.lemmas.proofs.Lists.{get_push_cases}
 use Rattle.network.specs.Nodes.{Node, opened_node}
 use Rattle.network.specs.Reading.{Places}
-use Rattle.ordered_journals.proofs.Lists.{get_push_cases}
 use Rattle.network.proofs.ReadingLemmas.{new_read}
 use Rattle.network.proofs.network.Network.open.Goals as goal
 

@@ -1,4 +1,5 @@
 use Rattle.std.proofs.Common.{◌≡◌, Ok, OnErr, refl, sym, ap, subst, ◌∙◌}
+use Rattle.lemmas.proofs.Tests.{not_both}
 use Rattle.rows.specs.Apply.{apply}
 use Rattle.rows.specs.Database.{Database, AreRowsOf}
 use Rattle.rows.specs.Patch.{SameTables, footprint_of}
@@ -6,7 +7,6 @@ use Rattle.rows.specs.Prepared.{Plan, IsStillTrue, same_tables}
 use Rattle.rows.proofs.FitLemmas.{keeps_rows, fits_along, tables_told, tables_tell, by_outcome}
 use Rattle.rows.proofs.Tables.{tables_decide}
 use Rattle.rows.proofs.rows.Rows.install.Goals as goal
-use Rattle.rows.proofs.Patching.{not_both}
 
 pub returns-then-not-are_same_tables-clause-stale : goal.returns-then-not-are_same_tables-clause-stale
 returns-then-not-are_same_tables-clause-stale c =

@@ -1,6 +1,0 @@
-pub mod Visits
-pub mod Behind
-pub mod Joining
-pub mod Passes
-pub mod Passing
-pub mod Refusals

@@ -1,7 +1,0 @@
-use Rattle.std.proofs.Common.{◌≡◌, drop}
-use Rattle.ordered_bundles.specs.Audit.{bringer}
-use Rattle.ordered_bundles.specs.Bundles.{histories_of}
-use Rattle.conflict_audit.proofs.naming.name_verdict.Given as goal
-
-abbrev pub invariant-loop-bringer : goal.invariant-loop-bringer
-invariant-loop-bringer l = bringer (histories_of l.opened (drop l.bringer-index l.journals)) l.out.next ≡ bringer (histories_of l.opened l.journals) l.out.next

@@ -1,0 +1,9 @@
+pub mod Faithful
+pub mod Served
+pub mod Whole
+pub mod Deciding
+pub mod Logs
+pub mod Exact
+pub mod FaithfulToSources
+pub mod Auditing
+pub mod AuditingInOrder

@@ -1,5 +1,0 @@
-pub mod Bundles
-pub mod Audit
-pub mod Cases
-pub mod Meaning
-pub mod Exact

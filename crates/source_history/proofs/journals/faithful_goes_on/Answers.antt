@@ -1,5 +1,0 @@
-use Rattle.source_history.proofs.Keeping.{faithful_goes_on}
-use Rattle.source_history.proofs.journals.faithful_goes_on.Goals as goal
-
-pub returns : goal.returns
-returns c = faithful_goes_on

@@ -1,5 +1,0 @@
-use Rattle.source_history.proofs.Keeping.{purged_is_faithful}
-use Rattle.source_history.proofs.journals.purged_is_faithful.Goals as goal
-
-pub returns : goal.returns
-returns c = purged_is_faithful

@@ -1,5 +1,0 @@
-use Rattle.source_history.proofs.Keeping.{whole_is_closed}
-use Rattle.source_history.proofs.journals.whole_is_closed.Goals as goal
-
-pub returns : goal.returns
-returns c = whole_is_closed
