@@ -6,12 +6,11 @@ from bisect import bisect_left
 from collections.abc import Callable, Iterator
 from functools import wraps
 
-from .formats import Bundle, Entry, Refused, bundle_lines, read_bundle, read_journal
+from .formats import FORMATS, VERSIONS, Bundle, Entry, Refused, bundle_lines, read_bundle, read_journal
 from .gtids import Gtid, GtidSet, Span
 from .rows import Key, RowFault, Rows, Transaction, keys_of
 from .set_text import TextFault, read_set, read_source
 
-VERSIONS = {"1", "2"}
 Answer = tuple[str, int]
 
 
@@ -123,10 +122,37 @@ class Audit:
                 return f"does-not-apply {gtid} {fault.text()}"
         return None
 
+    def conflict(self) -> str | None:
+        """The first verdict on keys."""
+        return self.shared() or self.not_closed()
+
     def verdict(self) -> str:
-        """The first verdict that holds."""
-        tests = (self.unequal, self.purged, self.missing, self.shared, self.not_closed, self.does_not_apply)
+        """The first verdict that holds; of keys alone where the rows aren't known."""
+        tests = [self.unequal, self.purged, self.missing, self.conflict, self.does_not_apply]
+        tests = tests[:-1] if self.bundle.rows_line else tests
         return next((found for found in (test() for test in tests) if found), "sound")
+
+    def answer(self) -> Answer:
+        """The verdict with what it rests on, and the exit status."""
+        verdict, assumed = self.verdict(), self.bundle.assumed()
+        if verdict != "sound":
+            return verdict, 1
+        return (f"sound if {', '.join(assumed)}", 5) if assumed else ("sound", 0)
+
+    def answer_all(self) -> Answer:
+        """The verdict and all other faults, with what they rest on, and the exit status."""
+        first, status = self.answer()
+        assumed = self.bundle.assumed() if status == 1 else []
+        return "\n".join([first, *self.all_faults()[1:], *([f"if {', '.join(assumed)}"] if assumed else [])]), status
+
+    def applied(self) -> Answer:
+        """The state where the verdict is `sound`, with what it rests on, and the exit status."""
+        verdict, assumed = self.verdict(), self.bundle.assumed()
+        if verdict != "sound":
+            return verdict, 1
+        if self.bundle.rows_line:
+            return f"refused E31 no-rows at line {self.bundle.rows_line}", 1
+        return "\n".join([*(f"assume {it}" for it in assumed), self.state()]), 5 if assumed else 0
 
     def missing_gtids(self) -> GtidSet:
         """What no journal has though it has a greater number of the source, and was not executed from the start."""
@@ -228,29 +254,25 @@ def refusals_told(call: Callable[..., Answer]) -> Callable[..., Answer]:
 @refusals_told
 def audit(text: str) -> Answer:
     """What `audit` prints for an input, and its exit status."""
-    verdict = Audit(read_bundle(text, VERSIONS)).verdict()
-    return verdict, int(verdict != "sound")
+    return Audit(read_bundle(text, VERSIONS)).answer()
 
 
 @refusals_told
 def audit_all(text: str) -> Answer:
     """What `audit --all` prints for an input, and its exit status."""
-    lines = Audit(read_bundle(text, VERSIONS)).all_faults()
-    return "\n".join(lines), int(lines[0] != "sound")
+    return Audit(read_bundle(text, VERSIONS)).answer_all()
 
 
 @refusals_told
 def apply(text: str) -> Answer:
     """What `apply` prints for an input, and its exit status."""
-    world = Audit(read_bundle(text, VERSIONS))
-    verdict = world.verdict()
-    return (world.state(), 0) if verdict == "sound" else (verdict, 1)
+    return Audit(read_bundle(text, VERSIONS)).applied()
 
 
 @refusals_told
-def upgrade(text: str) -> Answer:
+def upgrade(text: str, to: str = "2") -> Answer:
     """What `upgrade` prints for an input, and its exit status."""
-    return "\n".join(bundle_lines(read_bundle(text, {"1"}), 2)), 0
+    return "\n".join(bundle_lines(read_bundle(text, {it for it in FORMATS if it < to}), int(to))), 0
 
 
 @refusals_told

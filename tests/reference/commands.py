@@ -26,12 +26,17 @@ def answer(words: Sequence[str], text: Callable[[], str]) -> tuple[str, int]:
             line, status = audit_all(text())
         case ["audit", "--ordered"]:
             line, status = audit_ordered(text())
-        case ["apply"] | ["apply", "--workers", _]:
-            line, status = apply(text())
-        case ["apply", "--ordered"] | ["apply", "--ordered", "--workers", _] | ["apply", "--workers", _, "--ordered"]:
-            line, status = apply_ordered(text())
-        case ["upgrade"]:
+        case ["apply", *options]:
+            # (neither the way nor the number of workers makes a difference)
+            pairs = {"--by", "--workers"}
+            plain = [it for at, it in enumerate(options) if it not in pairs and (at == 0 or options[at - 1] not in pairs)]
+            if plain not in ([], ["--ordered"]):
+                return BAD_COMMAND_LINE
+            line, status = apply_ordered(text()) if plain else apply(text())
+        case ["upgrade"] | ["upgrade", "--to", "2"]:
             line, status = upgrade(text())
+        case ["upgrade", "--to", "3"]:
+            line, status = upgrade(text(), "3")
         case ["states"]:
             line, status = states(text())
         case _:

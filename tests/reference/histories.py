@@ -13,8 +13,10 @@ HISTORY_LINE = re.compile(r"([0-9]+) ([0-9]+) (take|commit|rollback) ([0-9]+)((?
 
 def opening_lines(bundle: Bundle) -> Iterator[str]:
     """The script of the replica, before a seat has done anything, and after it was served all journals."""
+    yield from ["version 3"] if bundle.version == "3" else []
     yield from (table.line() for table in bundle.schema.values())
-    yield from bundle.rows.lines()
+    yield from (f"fk {it}" for it in bundle.references)
+    yield from bundle.rows.lines(is_whole=True)
     yield f"core {bundle.replica} {bundle.opening.word()}"
     for number, channel in enumerate(bundle.channels):
         yield f"channel {channel.name}{' preserve' if channel.preserve else ''}"

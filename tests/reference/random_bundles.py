@@ -11,7 +11,7 @@ from random import Random
 
 from .formats import Bundle, Channel, Entry, Journal
 from .gtids import GREATEST, Gtid, GtidSet, Span
-from .rows import Change, Key, Row, RowFault, Rows, Table, Transaction, Value, keys_of
+from .rows import Change, Key, Row, RowFault, Rows, Schema, Table, Transaction, Value, keys_of
 
 SOURCES = [
     "aaaaaaaa-aaaa-aaaa-aaaa-aaaaaaaaaaaa",
@@ -48,10 +48,10 @@ class BundleMaker:
         """Some of these."""
         return [it for it in items if self.chance.randrange(100) < percent]
 
-    def tables(self) -> dict[str, Table]:
+    def tables(self) -> Schema:
         """Some tables."""
         names = self.chance.sample(TABLE_NAMES, self.chance.choice([0, 1, 1, 1, 2, 2, 3, 4]))
-        return {name: self.table(name) for name in names}
+        return Schema({name: self.table(name) for name in names})
 
     def table(self, name: str) -> Table:
         """One table."""
@@ -158,7 +158,7 @@ class BundleMaker:
 
     def wild_bundle(self) -> Bundle:
         """A bundle of any entries."""
-        bundle = Bundle(self.chance.choice(SOURCES), self.wild_set() if self.is_one_in(2) else GtidSet(), self.tables())
+        bundle = Bundle("2", self.chance.choice(SOURCES), self.wild_set() if self.is_one_in(2) else GtidSet(), self.tables())
         tables = list(bundle.schema.values())
         for _ in range(self.few(8) if tables else 0):
             table = self.chance.choice(tables)
@@ -175,7 +175,7 @@ class BundleMaker:
 
     def tidy_bundle(self, has_opening: bool) -> Bundle:
         """A bundle that is most likely sound; with an opening set that is not empty, most likely, where one is asked for."""
-        bundle = Bundle(self.chance.choice(SOURCES), GtidSet(), self.tables())
+        bundle = Bundle("2", self.chance.choice(SOURCES), GtidSet(), self.tables())
         sources = self.chance.sample(SOURCES, self.chance.randint(1, 3))
         for table in bundle.schema.values():
             for _ in range(self.few(4)):

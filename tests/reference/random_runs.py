@@ -12,10 +12,10 @@ from dataclasses import dataclass
 from random import Random
 
 from . import commands, random_scripts, scripts
-from .formats import Journal, bundle_lines, journal_lines, read_bundle
+from .formats import VERSIONS, Journal, bundle_lines, journal_lines, read_bundle
 from .gtids import GtidSet
 from .histories import objection
-from .ordered import VERSIONS, Failovers, OrderedAudit, is_borne_out
+from .ordered import Failovers, OrderedAudit, is_borne_out
 from .logs import imported
 from .random_bundles import SOURCES, BundleMaker
 from .random_logs import logs_text, options

@@ -324,7 +324,7 @@ class ScriptMaker:
 
     def declare(self, last: str) -> None:
         """Says tables and opening rows, and the last declaration."""
-        schema: Schema = {"t": Table("t", 2, ((0,), (1,)))} if self.is_one_in(2) else self.bundles.tables()
+        schema = Schema(t=Table("t", 2, ((0,), (1,)))) if self.is_one_in(2) else self.bundles.tables()
         rows = Rows(schema)
         for table in schema.values():
             for _ in range(self.bundles.few(4)):

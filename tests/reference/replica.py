@@ -271,9 +271,9 @@ class Replica:
         """Whether every received GTID is executed."""
         return all(channel.received <= self.executed for channel in self.channels)
 
-    def journal_lines(self) -> Iterator[str]:
-        """The lines of the own journal."""
-        return journal_lines(self.journal)
+    def journal_lines(self, version: str) -> Iterator[str]:
+        """The lines of the own journal, by this version."""
+        return journal_lines(self.journal, self.rows.schema, version)
 
     def status_lines(self) -> Iterator[str]:
         """The lines of a status."""

@@ -45,11 +45,12 @@ class Key(NamedTuple):
 
 @dataclass(frozen=True)
 class Table:
-    """A table: its number of columns, and the columns of its keys, the primary key first."""
+    """A table: its number of columns, the columns of its keys, the primary key first, and how many of its last columns are hidden."""
 
     name: str
     columns: int
     keys: tuple[tuple[int, ...], ...]
+    hidden: int = 0
 
     def primary_key(self, row: Row) -> Key:
         """The primary key that a row carries."""
@@ -65,10 +66,14 @@ class Table:
     def line(self) -> str:
         """Its line in a bundle."""
         primary, *uniques = (",".join(map(str, columns)) for columns in self.keys)
-        return f"table {self.name} {self.columns} pk {primary}" + "".join(f" uk {columns}" for columns in uniques)
+        hidden = f" hidden {self.hidden}" if self.hidden else ""
+        return f"table {self.name} {self.columns} pk {primary}" + "".join(f" uk {columns}" for columns in uniques) + hidden
 
 
-Schema = dict[str, Table]
+class Schema(dict[str, Table]):
+    """Tables by their names, and how many bytes a value of them has at most."""
+
+    most_bytes: int = MOST_BYTES
 
 
 class Cause(Enum):
@@ -101,7 +106,7 @@ class Change:
             return Cause.COLUMNS
         if any(None in table.primary_key(image).values for image in self.images()):
             return Cause.NULL_IN_PRIMARY
-        if any(isinstance(it, bytes) and len(it) > MOST_BYTES for image in self.images() for it in image):
+        if any(isinstance(it, bytes) and len(it) > schema.most_bytes for image in self.images() for it in image):
             return Cause.TOO_LONG
         return None
 
@@ -191,12 +196,17 @@ class Rows:
         """The same rows."""
         return Rows(self.schema, dict(self.carriers))
 
-    def lines(self) -> list[str]:
-        """A `row` line for each row, by table name and then by the values of the primary key."""
+    def lines(self, is_whole: bool = False) -> list[str]:
+        """A `row` line for each row, by table name and then by the values of the primary key; hidden columns are there where rows are
+        to be whole."""
 
         def order(item: tuple[Key, Row]) -> tuple[str, Sequence[object]]:
             key, _ = item
             return key.table, [value_order(value) for value in key.values]
 
         primary = sorted((item for item in self.carriers.items() if item[0].index == 0), key=order)
-        return [f"row {key.table} {values_text(row)}" for key, row in primary]
+        return [f"row {key.table} {values_text(row if is_whole else self.shown(key.table, row))}" for key, row in primary]
+
+    def shown(self, table: str, row: Row) -> Row:
+        """A row without its hidden columns."""
+        return row[: self.schema[table].columns - self.schema[table].hidden]

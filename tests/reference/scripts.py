@@ -4,11 +4,11 @@ from __future__ import annotations
 from collections.abc import Callable
 from dataclasses import dataclass, field
 
-from .formats import COUNT_FORM, NAME_FORM, JournalDraft, LineFault, put_row, table_in, take_line
+from .formats import COUNT_FORM, FORMATS, VERSIONS, Format, JournalDraft, LineFault, put_row, reference_in, table_in, take_line
 from .gtids import UUID_FORM, Gtid, GtidSet, SourcesFull, gtid_in, set_in
 from .network import NO_NODE, Network
 from .replica import Replica, Reply
-from .rows import Rows, Transaction
+from .rows import Rows, Schema, Transaction
 
 NOBODY = Gtid("00000000-0000-0000-0000-000000000000", 1)
 
@@ -23,8 +23,9 @@ class BadLine(Exception):
 class Declared:
     """The declarations of a section so far."""
 
-    rows: Rows = field(default_factory=lambda: Rows({}))
-    has_rows: bool = False
+    rows: Rows = field(default_factory=lambda: Rows(Schema()))
+    form: Format = FORMATS["1"]
+    words: list[str] = field(default_factory=list)
 
 
 def number_in(word: str) -> int:
@@ -104,21 +105,26 @@ class Script:
     def declare(self, line: str) -> None:
         """Takes a declaration."""
         word, blank, body = line.partition(" ")
-        words, rows = body.split(" "), self.declared.rows
+        words, rows, form, declared = body.split(" "), self.declared.rows, self.declared.form, self.declared.words
         if not blank:
             raise BadLine
-        if word == "table" and not self.declared.has_rows:
-            table = table_in(body, rows.schema)
+        if line == "version 3" and not declared and "3" in VERSIONS:
+            self.declared.form = FORMATS["3"]
+            rows.schema.most_bytes = self.declared.form.most_bytes
+        elif word == "table" and declared[-1:] in ([], ["version"], ["table"]):
+            table = table_in(body, rows.schema, form)
             rows.schema[table.name] = table
+        elif word == "fk" and form.references and declared[-1:] != ["row"]:
+            reference_in(body, rows.schema, declared.count("fk"))
         elif word == "row":
-            put_row(body, rows)
-            self.declared.has_rows = True
+            put_row(body, rows, form)
         elif word == "core" and len(words) <= 2:
             self.replica = Replica(uuid_in(words[0]), rows, opening_in(words[1:]))
         elif word == "network" and len(set(words)) == len(words):
             self.network = Network([uuid_in(it) for it in words], rows)
         else:
             raise BadLine
+        declared.append(word)
 
     def take_change(self, line: str) -> None:
         """Takes a line within a transaction, and makes the event at its end."""
@@ -133,8 +139,9 @@ class Script:
 
     def open_transaction(self, gtid: Gtid, event: Events) -> list[str]:
         """A transaction begins, with which the event is made at its end."""
-        self.draft, self.event = JournalDraft({"1"}, None), event
-        for line in ("journal 1", "previous -", f"txn {gtid}"):
+        version = self.declared.form.version
+        self.draft, self.event = JournalDraft({version}, None), event
+        for line in (f"journal {version}", "previous -", f"txn {gtid}" + (" 0 1" if self.declared.form.has_stamps else "")):
             take_line(self.draft, line)
         return []
 
@@ -151,11 +158,11 @@ class Script:
             case ["rows"]:
                 return replica.rows.lines()
             case ["journal"]:
-                return list(replica.journal_lines())
+                return list(replica.journal_lines(self.declared.form.version))
             case ["status"]:
                 return list(replica.status_lines())
             case _:
-                return [str(one_answer(replica, words))]
+                return [str(one_answer(replica, words, self.declared.form))]
 
     def take_of_network(self, network: Network, words: list[str]) -> None:
         """Takes an event or a query of a network."""
@@ -175,7 +182,7 @@ class Script:
             return self.not_here(node, words)
         if node is not None:
             return self.answered(node, words)
-        answers = self.answered(Replica(NOBODY.source, Rows({}), GtidSet()), words)
+        answers = self.answered(Replica(NOBODY.source, Rows(Schema()), GtidSet()), words)
         if self.is_open():
             self.event = lambda changes: NO_NODE
             return answers
@@ -195,12 +202,12 @@ class Script:
                 raise BadLine
 
 
-def one_answer(replica: Replica, words: list[str]) -> object:
+def one_answer(replica: Replica, words: list[str], form: Format) -> object:
     """The answer to an event or a query that has one line."""
     match words:
-        case ["channel", name] if NAME_FORM.fullmatch(name):
+        case ["channel", name] if form.is_name(name):
             return replica.open_channel(name, False)
-        case ["channel", name, "preserve"] if NAME_FORM.fullmatch(name):
+        case ["channel", name, "preserve"] if form.is_name(name):
             return replica.open_channel(name, True)
         case ["position", c]:
             return replica.position(number_in(c))
