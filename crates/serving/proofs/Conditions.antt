@@ -54,10 +54,10 @@ use Rattle.serving.specs.declared.order.Order.{Order}
 use Rattle.serving.specs.declared.order.Order.TheVariants.{BySource, ByConflict}
 use Rattle.serving.specs.declared.receiving.Apply.{Apply}
 use Rattle.serving.specs.Servable.{FitsJournal, IsFitting, HasRoom, IsServable, can_be_sent, CanOpen, IsTaken, CanReceive, CanSend, CanServe, CanServeEach}
-use Rattle.serving.specs.Serving.{run, IsBetween, with_opened, Asks, ServesEach, opening}
+use Rattle.serving.specs.Serving.{run, IsBetween, with_opened, Asks, Starts, ServesEach, opening}
 use Rattle.serving.specs.Verdicts.{Naming, names_of, world_over, keys_over}
-use Rattle.serving.proofs.Runs.{all_by, true_from, asks_run, asks_keeps, served_behind}
-use Rattle.serving.proofs.Shapes.{applies_can, others_can, asks_named}
+use Rattle.serving.proofs.Runs.{all_by, true_from, starts_run, starts_keeps, served_behind}
+use Rattle.serving.proofs.Shapes.{applies_can, others_can, starts_named}
 
 -- ---- one event
 
@@ -221,11 +221,11 @@ module _ (r : Replica) (c : ℕ) (channel : BundleChannel) (chs rest : List Bund
         sends = can.send.0;
       }
 
-  pub serve_rest : (all : List Entry) (a : Replica) → Asks r c channel j all a → CanServeEach (c + 1) rest js a
-  serve_rest all a asks =
+  pub serve_rest : (apply : Apply) (soon later : List Entry) (a : Replica) → Starts apply r c channel j soon later a → CanServeEach (c + 1) rest js a
+  serve_rest apply soon later a starts =
       let can = split in
       let few = can.few in
-      let named = asks_named r c channel j all a asks in
+      let named = starts_named apply r c channel j soon later a starts in
       let longer : length a.state.channels ≡ length r.state.channels + 1 =
       sym (length-map a.state.channels (λ (x : ChannelValue). (x.name, x.preserve))) ∙ ap length named
       ∙ length-append (names_of r.state.channels) ((channel.name, channel.preserve) ∷ [])
@@ -237,15 +237,19 @@ module _ (r : Replica) (c : ℕ) (channel : BundleChannel) (chs rest : List Bund
         next = longer ∙ ap (λ (n : ℕ). n + 1) can.next;
         few = omega (arith, few);
         have = can.have.1;
-        send = subst (λ (x : Replica). AllByRecursion (CanSend x.site.schema a.state.executed) js) (sym (asks_run r c channel j all a asks))
+        send = subst (λ (x : Replica). AllByRecursion (CanSend x.site.schema a.state.executed) js) (sym (starts_run apply r c channel j soon later a starts))
             (all_by (CanSend r.site.schema r.state.executed) (CanSend r.site.schema a.state.executed) (λ x h. record {
-              unpurged = subset_more x.previous r.state.executed a.state.executed (asks_keeps r c channel j all a asks) h.unpurged;
+              unpurged = subset_more x.previous r.state.executed a.state.executed (starts_keeps apply r c channel j soon later a starts) h.unpurged;
               taken = h.taken;
               room = h.room;
             }) js can.send.1);
       }
 
-  -- what was asked for can be received once the others were served
+  -- what was asked for can be received at once
+  pub can_receive_soon : (all : List Entry) (a : Replica) → Asks r c channel j all a → CanReceive c all a
+  can_receive_soon all a asks = can_receive r c channel j serve_first a all asks
+
+  -- ... or once the others were served
   pub can_receive_behind : (apply : Apply) (all : List Entry) (a s : Replica) → Asks r c channel j all a → ServesEach apply a (c + 1) rest js s → CanReceive c all s
   can_receive_behind apply all a s asks more =
       let low : c < c + 1 = omega arith in

@@ -56,7 +56,7 @@ use Rattle.serving.specs.declared.receiving.Apply.{Apply}
 use Rattle.serving.specs.declared.receiving.Apply.TheVariants.{AtOnce}
 use Rattle.serving.specs.Faults.{Cover, IsFaultWhere, HasGtid, HasSet, IsReceived, Knows, HasEntries, KnowsWith, HasJournal, KnowsToo, IsBundleFault, IsVerdictFault}
 use Rattle.serving.specs.declared.order.Order.{Order}
-use Rattle.serving.specs.Serving.{run, IsBetween, IsFeed, Applies, Receives, with_opened, Asks, ServesEach, opening, IsServed, IsRun}
+use Rattle.serving.specs.Serving.{run, IsBetween, IsFeed, Applies, Receives, with_opened, Asks, Starts, ServesEach, opening, IsServed, IsRun}
 use Rattle.serving.proofs.Conditions.{sent_all}
 use Rattle.serving.proofs.Runs.{all_by, IsApart, no_receipts, no_locals, no_commits, between_apart, feed_apart}
 
@@ -128,13 +128,40 @@ knows_asking cover r t c channel j es asks within =
 pub sends_known : (cover : Cover) (r t : Replica) (c : ℕ) (channel : BundleChannel) (j : JournalValue) (es : List Entry) → Asks r c channel j es t → HasEntries cover j.entries → HasEntries cover es
 sends_known cover r t c channel j es asks h = sent_all (λ (e : Entry). HasGtid cover e.gtid) j asks.ask es asks.all_sent h
 
+all_left : {A : Type 0} (P : A → Type 0) (xs ys : List A) → AllByRecursion P (xs ++ ys) → AllByRecursion P xs
+all_left P [] ys h = tt
+all_left P (x ∷ xs) ys h = (h.0, all_left P xs ys h.1)
+
+all_right : {A : Type 0} (P : A → Type 0) (xs ys : List A) → AllByRecursion P (xs ++ ys) → AllByRecursion P ys
+all_right P [] ys h = h
+all_right P (x ∷ xs) ys h = all_right P xs ys h.1
+
+-- what it has received by then, and what it will
+pub sends_both : (cover : Cover) (apply : Apply) (r t : Replica) (c : ℕ) (channel : BundleChannel) (j : JournalValue) (soon later : List Entry) → Starts apply r c channel j soon later t
+    → HasEntries cover j.entries → HasEntries cover (soon ++ later)
+sends_both cover apply r t c channel j soon later starts h = sends_known cover r starts.asking c channel j (soon ++ later) starts.asks h
+
+pub sends_soon : (cover : Cover) (apply : Apply) (r t : Replica) (c : ℕ) (channel : BundleChannel) (j : JournalValue) (soon later : List Entry) → Starts apply r c channel j soon later t
+    → HasEntries cover j.entries → HasEntries cover soon
+sends_soon cover apply r t c channel j soon later starts h = all_left (λ (e : Entry). HasGtid cover e.gtid) soon later (sends_both cover apply r t c channel j soon later starts h)
+
+pub sends_behind : (cover : Cover) (apply : Apply) (r t : Replica) (c : ℕ) (channel : BundleChannel) (j : JournalValue) (soon later : List Entry) → Starts apply r c channel j soon later t
+    → HasEntries cover j.entries → HasEntries cover later
+sends_behind cover apply r t c channel j soon later starts h = all_right (λ (e : Entry). HasGtid cover e.gtid) soon later (sends_both cover apply r t c channel j soon later starts h)
+
+pub knows_started : (cover : Cover) (apply : Apply) (r t : Replica) (c : ℕ) (channel : BundleChannel) (j : JournalValue) (soon later : List Entry) → Starts apply r c channel j soon later t
+    → HasEntries cover j.entries → Knows r.state cover → Knows t.state cover
+knows_started cover apply r t c channel j soon later starts h within =
+    knows_received cover apply starts.asking t c soon starts.received (sends_soon cover apply r t c channel j soon later starts h)
+    (knows_asking cover r starts.asking c channel j (soon ++ later) starts.asks within)
+
 knows_each : (cover : Cover) (apply : Apply) (r : Replica) (c : ℕ) (channels : List BundleChannel) (js : List JournalValue) (t : Replica) → ServesEach apply r c channels js t
     → AllByRecursion (HasJournal cover) js → Knows r.state cover → Knows t.state cover
 knows_each cover apply r c channels [] t x h within = subst (λ (y : Replica). Knows y.state cover) (sym x) within
 knows_each cover apply r c [] (j ∷ js) t x h within = absurd x
 knows_each cover apply r c (channel ∷ channels) (j ∷ js) t x h within =
-    knows_received cover apply x.2 t c x.0 x.5 (sends_known cover r x.1 c channel j x.0 x.3 h.0.entries)
-    (knows_each cover apply x.1 (c + 1) channels js x.2 x.4 h.1 (knows_asking cover r x.1 c channel j x.0 x.3 within))
+    knows_received cover apply x.3 t c x.1 x.6 (sends_behind cover apply r x.2 c channel j x.0 x.1 x.4 h.0.entries)
+    (knows_each cover apply x.2 (c + 1) channels js x.3 x.5 h.1 (knows_started cover apply r x.2 c channel j x.0 x.1 x.4 h.0.entries within))
 
 -- ---- from the opening
 
@@ -401,12 +428,20 @@ pub first_fault : (f : SetFault) (s : State) (j : JournalValue) (js journals : L
 first_fault f s j js journals is h =
     subst (λ (xs : List JournalValue). IsFaultWhere (KnowsToo s xs) f) (sym is) (weaker f (KnowsToo s (j ∷ [])) (KnowsToo s (j ∷ js)) (λ cover has. (has.0, (has.1.0, tt))) h)
 
--- a fault of the other journals, once a channel has asked for the first
-pub rest_fault : (f : SetFault) (r a : Replica) (c : ℕ) (channel : BundleChannel) (j : JournalValue) (js journals : List JournalValue) (all : List Entry) → journals ≡ j ∷ js → Asks r c channel j all a
-    → IsFaultWhere (KnowsToo a.state js) f → IsFaultWhere (KnowsToo r.state journals) f
-rest_fault f r a c channel j js journals all is asks h =
+-- a fault of the other journals, once a channel has begun with the first
+pub rest_fault : (f : SetFault) (apply : Apply) (r a : Replica) (c : ℕ) (channel : BundleChannel) (j : JournalValue) (js journals : List JournalValue) (soon later : List Entry) → journals ≡ j ∷ js
+    → Starts apply r c channel j soon later a → IsFaultWhere (KnowsToo a.state js) f → IsFaultWhere (KnowsToo r.state journals) f
+rest_fault f apply r a c channel j js journals soon later is starts h =
     subst (λ (xs : List JournalValue). IsFaultWhere (KnowsToo r.state xs) f) (sym is)
-    (weaker f (KnowsToo a.state js) (KnowsToo r.state (j ∷ js)) (λ cover has. (knows_asking cover r a c channel j all asks has.0, has.1.1)) h)
+    (weaker f (KnowsToo a.state js) (KnowsToo r.state (j ∷ js)) (λ cover has. (knows_started cover apply r a c channel j soon later starts has.1.0.entries has.0, has.1.1)) h)
+
+-- a fault of what a channel receives as soon as it has asked
+pub soon_fault : (f : SetFault) (r a : Replica) (c : ℕ) (channel : BundleChannel) (j : JournalValue) (js journals : List JournalValue) (all : List Entry)
+    → journals ≡ j ∷ js → Asks r c channel j all a → IsFaultWhere (KnowsWith a.state all) f → IsFaultWhere (KnowsToo r.state journals) f
+soon_fault f r a c channel j js journals all is asks h =
+    subst (λ (xs : List JournalValue). IsFaultWhere (KnowsToo r.state xs) f) (sym is)
+    (weaker f (KnowsWith a.state all) (KnowsToo r.state (j ∷ js))
+    (λ cover has. (knows_asking cover r a c channel j all asks has.0, sends_known cover r a c channel j all asks has.1.0.entries)) h)
 
 -- a fault of entries that a journal sends, once the others were served
 pub sent_fault : (f : SetFault) (apply : Apply) (r a s : Replica) (c : ℕ) (channel : BundleChannel) (rest : List BundleChannel) (j : JournalValue) (js journals : List JournalValue) (all : List Entry)

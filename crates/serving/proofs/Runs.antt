@@ -35,7 +35,7 @@ use Rattle.txn_journal.specs.BundleStates.{BundleValue}
 use Rattle.txn_journal.specs.declared.bundle.BundleChannel.{BundleChannel}
 use Rattle.serving.specs.declared.receiving.Apply.{Apply}
 use Rattle.serving.specs.declared.receiving.Apply.TheVariants.{Later, AtOnce}
-use Rattle.serving.specs.Serving.{run, IsBetween, apply_events_at, IsFeed, Applies, Receives, with_opened, Asks, ServesEach, opening, IsServed, IsApplied, IsReady, IsRun}
+use Rattle.serving.specs.Serving.{run, IsBetween, apply_events_at, IsFeed, Applies, Receives, with_opened, Asks, Starts, ServesEach, opening, IsServed, IsApplied, IsReady, IsRun}
 use Rattle.world.specs.AuditInOrder as in_order
 use Rattle.convergence.specs.AuditingInOrder.{WorkersDecideInOrder, ServedHoldsAllInOrder}
 use Rattle.serving.specs.declared.order.Order.{Order}
@@ -189,57 +189,68 @@ feed_elsewhere apply c d e other h = between_elsewhere apply d e h
 
 -- ---- one journal
 
-module _ (r : Replica) (c : ℕ) (channel : BundleChannel) (j : JournalValue) (all : List Entry) (a : Replica) (asks : Asks r c channel j all a) where
-  abbrev pub asking : List Event
-  asking = OpenChannel channel.name channel.preserve ∷ Position c ∷ []
+module _ (apply : Apply) (r : Replica) (c : ℕ) (channel : BundleChannel) (j : JournalValue) (soon later : List Entry) (a : Replica) (starts : Starts apply r c channel j soon later a) where
+  abbrev first_fed : List Event
+  first_fed = starts.received.events
 
-  asking_apart : (d : ℕ) → eqb c d ≡ false → AllByRecursion (IsApart d) asking
-  asking_apart d other = (tt, (other, tt))
+  abbrev pub begun : List Event
+  begun = OpenChannel channel.name channel.preserve ∷ Position c ∷ first_fed
 
-  asking_elsewhere : (apply : Apply) (d : ℕ) → eqb c d ≡ false → AllByRecursion (IsElsewhere apply d) asking
-  asking_elsewhere apply d other = (tt, (other, tt))
+  begun_apart : (d : ℕ) → eqb c d ≡ false → AllByRecursion (IsApart d) begun
+  begun_apart d other = (tt, (other, all_by (IsFeed apply c) (IsApart d) (λ e h. feed_apart apply c d e other h) first_fed starts.received.feeds))
 
-  pub asks_run : a ≡ run r asking
-  asks_run = asks.now
+  begun_elsewhere : (d : ℕ) → eqb c d ≡ false → AllByRecursion (IsElsewhere apply d) begun
+  begun_elsewhere d other = (tt, (other, all_by (IsFeed apply c) (IsElsewhere apply d) (λ e h. feed_elsewhere apply c d e other h) first_fed starts.received.feeds))
+
+  pub starts_run : a ≡ run r begun
+  starts_run = then_run r starts.asking a (OpenChannel channel.name channel.preserve ∷ Position c ∷ []) first_fed starts.asks.now starts.received.now
 
   -- what was executed stays so
-  pub asks_keeps : (g : Gtid) → set.contains r.state.executed g ≡ true → set.contains a.state.executed g ≡ true
-  asks_keeps g h =
+  pub starts_keeps : (g : Gtid) → set.contains r.state.executed g ≡ true → set.contains a.state.executed g ≡ true
+  starts_keeps g h =
       let other : eqb c (suc c) ≡ false = ne_eqb c (suc c) (λ e. absurd (omega (arith, e))) in
-      subst (λ (x : Replica). set.contains x.state.executed g ≡ true) (sym asks_run)
-      ((run_grows r.site r.state asking (no_locals (suc c) r.site r.state asking (asking_apart (suc c) other))).kept g h)
+      subst (λ (x : Replica). set.contains x.state.executed g ≡ true) (sym starts_run)
+      ((run_grows r.site r.state begun (no_locals (suc c) r.site r.state begun (begun_apart (suc c) other))).kept g h)
 
   -- it is served by what it asked and what it receives, if nothing between and nothing later touches the channel
-  served_first : (apply : Apply) (s t : Replica) (between : List Event) (receives : Receives apply s c all t) (rest : List Event) → s ≡ run a between → AllByRecursion (IsApart c) between
-      → AllByRecursion (IsApart c) rest → WasServedOnce r.site r.state (asking ++ (between ++ (receives.events ++ rest))) c j
-  served_first apply s t between receives rest reached quiet apart =
+  served_first : (s t : Replica) (between : List Event) (receives : Receives apply s c later t) (rest : List Event) → s ≡ run a between → AllByRecursion (IsApart c) between
+      → AllByRecursion (IsApart c) rest → WasServedOnce r.site r.state (begun ++ (between ++ (receives.events ++ rest))) c j
+  served_first s t between receives rest reached quiet apart =
       let fed : List Event = receives.events in
-      let asked : State = after r.site r.state asking in
-      let ready : State = after r.site asked between in
-      let at : s ≡ run r (asking ++ between) = then_run r a s asking between asks_run reached in
-      let got : received_on c r.site ready fed ≡ all = subst (λ (x : Replica). received_on c x.site x.state fed ≡ all) at receives.got in
-      let last : received_on c r.site ready (fed ++ rest) ≡ all =
-      received_append c r.site ready fed rest ∙ (λ i. got i ++ no_receipts c r.site (after r.site ready fed) rest apart i) ∙ append-nil all in
+      let asked : State = (run (with_opened r channel) (Position c ∷ [])).state in
+      let started : State = after r.site asked first_fed in
+      let ready : State = after r.site started between in
+      let at : s ≡ run (run (run (with_opened r channel) (Position c ∷ [])) first_fed) between =
+      reached ∙ ap (λ (x : Replica). run x between) (starts.received.now ∙ ap (λ (x : Replica). run x first_fed) starts.asks.now) in
+      let first : received_on c r.site asked first_fed ≡ soon = subst (λ (x : Replica). received_on c x.site x.state first_fed ≡ soon) starts.asks.now starts.received.got in
+      let got : received_on c r.site ready fed ≡ later = subst (λ (x : Replica). received_on c x.site x.state fed ≡ later) at receives.got in
+      let last : received_on c r.site ready (fed ++ rest) ≡ later =
+      received_append c r.site ready fed rest ∙ (λ i. got i ++ no_receipts c r.site (after r.site ready fed) rest apart i) ∙ append-nil later in
+      let behind : received_on c r.site started (between ++ (fed ++ rest)) ≡ later =
+      received_append c r.site started between (fed ++ rest) ∙ (λ i. no_receipts c r.site started between quiet i ++ last i) in
       record {
         served = record {
           own = None;
           before = OpenChannel channel.name channel.preserve ∷ [];
-          later = between ++ (fed ++ rest);
-          ask = asks.ask;
-          all = all;
+          later = first_fed ++ (between ++ (fed ++ rest));
+          ask = starts.asks.ask;
+          all = soon ++ later;
           parts = refl;
           nothing_before = refl;
-          asked = asks.asked;
-          all_sent = asks.all_sent;
-          all_received = received_append c r.site asked between (fed ++ rest) ∙ (λ i. no_receipts c r.site asked between quiet i ++ last i);
+          asked = starts.asks.asked;
+          all_sent = starts.asks.all_sent;
+          all_received = received_append c r.site asked first_fed (between ++ (fed ++ rest)) ∙ (λ i. first i ++ behind i);
         };
-        once = list_all-append (λ e. not (is_position c e)) between (fed ++ rest)
+        once = list_all-append (λ e. not (is_position c e)) first_fed (between ++ (fed ++ rest))
+            ∙ and_from (list_all (λ e. not (is_position c e)) first_fed) (list_all (λ e. not (is_position c e)) (between ++ (fed ++ rest)))
+            (passes (IsFeed apply c) (λ e. not (is_position c e)) (feed_once apply c c) first_fed starts.received.feeds)
+            (list_all-append (λ e. not (is_position c e)) between (fed ++ rest)
             ∙ and_from (list_all (λ e. not (is_position c e)) between) (list_all (λ e. not (is_position c e)) (fed ++ rest))
             (passes (IsApart c) (λ e. not (is_position c e)) (apart_once c) between quiet)
             (list_all-append (λ e. not (is_position c e)) fed rest
             ∙ and_from (list_all (λ e. not (is_position c e)) fed) (list_all (λ e. not (is_position c e)) rest)
             (passes (IsFeed apply c) (λ e. not (is_position c e)) (feed_once apply c c) fed receives.feeds)
-            (passes (IsApart c) (λ e. not (is_position c e)) (apart_once c) rest apart));
+            (passes (IsApart c) (λ e. not (is_position c e)) (apart_once c) rest apart)));
       }
 
 -- what comes before may not touch the channel
@@ -277,19 +288,19 @@ record Serves (apply : Apply) (r : Replica) (c : ℕ) (js : List JournalValue) (
 some_not_none : {A P : Type 0} (x : A) → Some x ≡ None → P
 some_not_none x e = cc
 
-module _ (apply : Apply) (r : Replica) (c : ℕ) (channel : BundleChannel) (first : JournalValue) (js : List JournalValue) (all : List Entry) (a s t : Replica)
-    (asks : Asks r c channel first all a) (more : Serves apply a (c + 1) js s) (receives : Receives apply s c all t) where
-  abbrev begun : List Event
-  begun = asking r c channel first all a asks
+module _ (apply : Apply) (r : Replica) (c : ℕ) (channel : BundleChannel) (first : JournalValue) (js : List JournalValue) (soon later : List Entry) (a s t : Replica)
+    (starts : Starts apply r c channel first soon later a) (more : Serves apply a (c + 1) js s) (receives : Receives apply s c later t) where
+  abbrev front : List Event
+  front = begun apply r c channel first soon later a starts
 
   abbrev fed : List Event
   fed = receives.events
 
   abbrev each : List Event
-  each = begun ++ (more.events ++ fed)
+  each = front ++ (more.events ++ fed)
 
   each_run : t ≡ run r each
-  each_run = then_run r a t begun (more.events ++ fed) (asks_run r c channel first all a asks) (then_run a s t more.events fed more.now receives.now)
+  each_run = then_run r a t front (more.events ++ fed) (starts_run apply r c channel first soon later a starts) (then_run a s t more.events fed more.now receives.now)
 
   fed_apart : (d : ℕ) → eqb c d ≡ false → AllByRecursion (IsApart d) fed
   fed_apart d other = all_by (IsFeed apply c) (IsApart d) (λ e h. feed_apart apply c d e other h) fed receives.feeds
@@ -297,43 +308,46 @@ module _ (apply : Apply) (r : Replica) (c : ℕ) (channel : BundleChannel) (firs
   each_elsewhere : (d : ℕ) → d < c → AllByRecursion (IsElsewhere apply d) each
   each_elsewhere d low =
       let other : eqb c d ≡ false = ne_eqb c d (λ e. absurd (omega (arith, e, low))) in
-      all_append (IsElsewhere apply d) begun (more.events ++ fed) (asking_elsewhere r c channel first all a asks apply d other)
+      all_append (IsElsewhere apply d) front (more.events ++ fed) (begun_elsewhere apply r c channel first soon later a starts d other)
       (all_append (IsElsewhere apply d) more.events fed (more.elsewhere d (omega (arith, low)))
       (all_by (IsFeed apply c) (IsElsewhere apply d) (λ e h. feed_elsewhere apply c d e other h) fed receives.feeds))
 
   each_apart : (d : ℕ) → ((k : ℕ) → d ≡ c + k → slice_get (first ∷ js) k ≡ None) → AllByRecursion (IsApart d) each
   each_apart d h =
       let other : eqb c d ≡ false = ne_eqb c d (λ e. let z : d ≡ c + zero = omega (arith, e) in some_not_none first (h zero z)) in
-      all_append (IsApart d) begun (more.events ++ fed) (asking_apart r c channel first all a asks d other)
+      all_append (IsApart d) front (more.events ++ fed) (begun_apart apply r c channel first soon later a starts d other)
       (all_append (IsApart d) more.events fed (more.apart d (λ k e. let z : d ≡ c + suc k = omega (arith, e) in h (suc k) z)) (fed_apart d other))
+
+  whole : (rest : List Event) → each ++ rest ≡ front ++ (more.events ++ (fed ++ rest))
+  whole rest = append_assoc front (more.events ++ fed) rest ∙ ap (λ (es : List Event). front ++ es) (append_assoc more.events fed rest)
 
   each_served : (rest : List Event) (k d : ℕ) (j : JournalValue) → d ≡ c + k → slice_get (first ∷ js) k ≡ Some j → AllByRecursion (IsApart d) rest → WasServedOnce r.site r.state (each ++ rest) d j
   each_served rest zero d j e at apart =
       let same : d ≡ c = omega (arith, e) in
       let quiet : AllByRecursion (IsApart c) more.events = more.apart c (λ k z. absurd (omega (arith, z))) in
-      let here = served_first r c channel first all a asks apply s t more.events receives rest more.now quiet (subst (λ (n : ℕ). AllByRecursion (IsApart n) rest) same apart) in
+      let here = served_first apply r c channel first soon later a starts s t more.events receives rest more.now quiet (subst (λ (n : ℕ). AllByRecursion (IsApart n) rest) same apart) in
       subst (λ (n : ℕ). WasServedOnce r.site r.state (each ++ rest) n j) (sym same)
-      (subst (λ (es : List Event). WasServedOnce r.site r.state (begun ++ es) c j) (sym (append_assoc more.events fed rest))
-      (subst (λ (x : JournalValue). WasServedOnce r.site r.state (begun ++ (more.events ++ (fed ++ rest))) c x) (same_Some first j at) here))
+      (subst (λ (es : List Event). WasServedOnce r.site r.state es c j) (sym (whole rest))
+      (subst (λ (x : JournalValue). WasServedOnce r.site r.state (front ++ (more.events ++ (fed ++ rest))) c x) (same_Some first j at) here))
   each_served rest (suc k) d j e at apart =
-      let later : d ≡ (c + 1) + k = omega (arith, e) in
-      let other : eqb c d ≡ false = ne_eqb c d (λ z. absurd (omega (arith, z, later))) in
+      let behind : d ≡ (c + 1) + k = omega (arith, e) in
+      let other : eqb c d ≡ false = ne_eqb c d (λ z. absurd (omega (arith, z, behind))) in
       let quiet : AllByRecursion (IsApart d) (fed ++ rest) = all_append (IsApart d) fed rest (fed_apart d other) apart in
-      subst (λ (es : List Event). WasServedOnce r.site r.state (begun ++ es) d j) (sym (append_assoc more.events fed rest))
-      (served_later r a d j begun (more.events ++ (fed ++ rest)) (asks_run r c channel first all a asks) (asking_apart r c channel first all a asks d other)
-      (more.served (fed ++ rest) k d j later at quiet))
+      subst (λ (es : List Event). WasServedOnce r.site r.state es d j) (sym (whole rest))
+      (served_later r a d j front (more.events ++ (fed ++ rest)) (starts_run apply r c channel first soon later a starts) (begun_apart apply r c channel first soon later a starts d other)
+      (more.served (fed ++ rest) k d j behind at quiet))
 
 serves_each : (apply : Apply) (r : Replica) (c : ℕ) (channels : List BundleChannel) (js : List JournalValue) (t : Replica) → ServesEach apply r c channels js t → Serves apply r c js t
 serves_each apply r c channels [] t x = record { events = []; now = x; elsewhere = λ d low. tt; apart = λ d h. tt; served = λ rest k d j e at apart. none_some j at }
 serves_each apply r c [] (j ∷ js) t x = absurd x
 serves_each apply r c (channel ∷ channels) (j ∷ js) t x =
-    let more = serves_each apply x.1 (c + 1) channels js x.2 x.4 in
+    let more = serves_each apply x.2 (c + 1) channels js x.3 x.5 in
     record {
-      events = each apply r c channel j js x.0 x.1 x.2 t x.3 more x.5;
-      now = each_run apply r c channel j js x.0 x.1 x.2 t x.3 more x.5;
-      elsewhere = each_elsewhere apply r c channel j js x.0 x.1 x.2 t x.3 more x.5;
-      apart = each_apart apply r c channel j js x.0 x.1 x.2 t x.3 more x.5;
-      served = each_served apply r c channel j js x.0 x.1 x.2 t x.3 more x.5;
+      events = each apply r c channel j js x.0 x.1 x.2 x.3 t x.4 more x.6;
+      now = each_run apply r c channel j js x.0 x.1 x.2 x.3 t x.4 more x.6;
+      elsewhere = each_elsewhere apply r c channel j js x.0 x.1 x.2 x.3 t x.4 more x.6;
+      apart = each_apart apply r c channel j js x.0 x.1 x.2 x.3 t x.4 more x.6;
+      served = each_served apply r c channel j js x.0 x.1 x.2 x.3 t x.4 more x.6;
     }
 
 -- the channels before those that are served stay as they are seen
@@ -348,11 +362,23 @@ served_behind apply r c d channels js t low x =
     record { events = each.events; now = each.now; elsewhere = each.elsewhere d low }
 
 -- one journal, and the others
-pub serves_more : (apply : Apply) (r a s t : Replica) (c : ℕ) (channel : BundleChannel) (channels rest : List BundleChannel) (j : JournalValue) (js journals : List JournalValue) (all : List Entry)
-    → channels ≡ channel ∷ rest → journals ≡ j ∷ js → Asks r c channel j all a → ServesEach apply a (c + 1) rest js s → Receives apply s c all t → ServesEach apply r c channels journals t
-serves_more apply r a s t c channel channels rest j js journals all of is asks more receives =
+pub serves_more : (apply : Apply) (r a s t : Replica) (c : ℕ) (channel : BundleChannel) (channels rest : List BundleChannel) (j : JournalValue) (js journals : List JournalValue) (soon later : List Entry)
+    → channels ≡ channel ∷ rest → journals ≡ j ∷ js → Starts apply r c channel j soon later a → ServesEach apply a (c + 1) rest js s → Receives apply s c later t → ServesEach apply r c channels journals t
+serves_more apply r a s t c channel channels rest j js journals soon later of is starts more receives =
     subst (λ (xs : List JournalValue). ServesEach apply r c channels xs t) (sym is)
-    (subst (λ (cs : List BundleChannel). ServesEach apply r c cs (j ∷ js) t) (sym of) (all, a, s, asks, more, receives))
+    (subst (λ (cs : List BundleChannel). ServesEach apply r c cs (j ∷ js) t) (sym of) (soon, later, a, s, starts, more, receives))
+
+-- a channel has received nothing yet, or all
+pub starts_none : (apply : Apply) (r a : Replica) (c : ℕ) (channel : BundleChannel) (j : JournalValue) (all : List Entry) → Asks r c channel j all a → Starts apply r c channel j [] all a
+starts_none apply r a c channel j all asks = record { asking = a; asks = asks; received = receives_none apply a c }
+
+pub starts_all : (apply : Apply) (r a t : Replica) (c : ℕ) (channel : BundleChannel) (j : JournalValue) (all : List Entry) → Asks r c channel j all a → Receives apply a c all t
+    → Starts apply r c channel j all [] t
+starts_all apply r a t c channel j all asks received = record {
+  asking = a;
+  asks = subst (λ (es : List Entry). Asks r c channel j es a) (sym (append-nil all)) asks;
+  received = received;
+}
 
 -- ---- the run
 

@@ -28,7 +28,7 @@ use Rattle.serving.specs.declared.receiving.Apply.{Apply}
 use Rattle.serving.specs.declared.receiving.Apply.TheVariants.{AtOnce}
 use Rattle.serving.specs.Servable.{IsTaken, CanReceive}
 use Rattle.serving.specs.declared.order.Order.{Order}
-use Rattle.serving.specs.Serving.{IsBetween, IsFeed, Applies, with_opened, Asks, ServesEach, opening, IsRun}
+use Rattle.serving.specs.Serving.{IsBetween, IsFeed, Applies, Receives, with_opened, Asks, Starts, ServesEach, opening, IsRun}
 use Rattle.serving.specs.Verdicts.{Naming, names_of, names_asked, IsNamed}
 use Rattle.serving.proofs.Runs.{all_by, IsElsewhere, between_elsewhere, IsServedBehind, run_of}
 
@@ -225,15 +225,23 @@ asks_named r c channel j all a asks =
     ∙ names_positioned (with_opened r channel).state c
     ∙ names_opened r.site r.state channel.name channel.preserve c asks.number
 
+received_named : (apply : Apply) (s : Replica) (c : ℕ) (entries : List Entry) (t : Replica) → Receives apply s c entries t → names_of t.state.channels ≡ names_of s.state.channels
+received_named apply s c entries t received =
+    ap (λ (y : Replica). names_of y.state.channels) received.now ∙ fed_names apply c s.site s.state received.events received.feeds
+
+pub starts_named : (apply : Apply) (r : Replica) (c : ℕ) (channel : BundleChannel) (j : JournalValue) (soon later : List Entry) (a : Replica) → Starts apply r c channel j soon later a
+    → names_of a.state.channels ≡ names_of r.state.channels ++ (channel.name, channel.preserve) ∷ []
+starts_named apply r c channel j soon later a starts =
+    received_named apply starts.asking c soon a starts.received ∙ asks_named r c channel j (soon ++ later) starts.asking starts.asks
+
 each_named : (apply : Apply) (r : Replica) (c : ℕ) (channels : List BundleChannel) (js : List JournalValue) (t : Replica) → ServesEach apply r c channels js t
     → names_of t.state.channels ≡ names_of r.state.channels ++ names_asked (take (length js) channels)
 each_named apply r c channels [] t x = ap (λ (y : Replica). names_of y.state.channels) x ∙ sym (append-nil (names_of r.state.channels))
 each_named apply r c [] (j ∷ js) t x = absurd x
 each_named apply r c (channel ∷ channels) (j ∷ js) t x =
-    ap (λ (y : Replica). names_of y.state.channels) x.5.now
-    ∙ fed_names apply c x.2.site x.2.state x.5.events x.5.feeds
-    ∙ each_named apply x.1 (c + 1) channels js x.2 x.4
-    ∙ ap (λ (ns : List Naming). ns ++ names_asked (take (length js) channels)) (asks_named r c channel j x.0 x.1 x.3)
+    received_named apply x.3 c x.1 t x.6
+    ∙ each_named apply x.2 (c + 1) channels js x.3 x.5
+    ∙ ap (λ (ns : List Naming). ns ++ names_asked (take (length js) channels)) (starts_named apply r c channel j x.0 x.1 x.2 x.4)
     ∙ append_assoc (names_of r.state.channels) ((channel.name, channel.preserve) ∷ []) (names_asked (take (length js) channels))
 
 pub run_named : (order : Order) (b : BundleValue) (core : Replica) → IsRun order b core → IsNamed b core

@@ -1,5 +1,5 @@
 -- Runs in which a replica is served journals.
-use Rattle.std.specs.Prelude.{◌≡◌, ℕ, ◌+◌, List, [], ◌∷◌, slice_get, None, Ok}
+use Rattle.std.specs.Prelude.{◌≡◌, ℕ, ◌+◌, List, [], ◌∷◌, ◌++◌, slice_get, None, Ok}
 use Rattle.std.specs.List.{AllByRecursion}
 use Rattle.std.specs.Option.{option_map_or}
 use Rattle.gtid_set.specs.Sets.{Gtids}
@@ -72,14 +72,20 @@ pub record Asks (r : Replica) (c : ℕ) (channel : BundleChannel) (journal : Jou
   pub all_sent : sent journal ask None ≡ Ok all
   pub now : t ≡ run (with_opened r channel) (Position c ∷ [])
 
--- Each journal on a channel of its own; the first has this number. All channels are opened and positioned in turn, and then each receives
--- all that its source sends, the last one first.
+-- a channel is opened and positioned, and has received these entries; with those that come later they are all that its source sends
+pub record Starts (apply : Apply) (r : Replica) (c : ℕ) (channel : BundleChannel) (journal : JournalValue) (soon later : List Entry) (t : Replica) : Type 0 where
+  pub asking : Replica
+  pub asks : Asks r c channel journal (soon ++ later) asking
+  pub received : Receives apply asking c soon t
+
+-- Each journal on a channel of its own; the first has this number. A channel is opened and positioned, and receives some of what its source
+-- sends (all or none, say); then the others are served, and then it receives the rest.
 abbrev pub ServesEach : Apply → Replica → ℕ → List BundleChannel → List JournalValue → Replica → Type 0
 ServesEach apply r c channels [] t = t ≡ r
 ServesEach apply r c [] (j ∷ js) t = ⊥
 ServesEach apply r c (ch ∷ channels) (j ∷ js) t =
-    (all : List Entry) × (asking : Replica) × (others : Replica)
-    × Asks r c ch j all asking × ServesEach apply asking (c + 1) channels js others × Receives apply others c all t
+    (soon : List Entry) × (later : List Entry) × (started : Replica) × (others : Replica)
+    × Starts apply r c ch j soon later started × ServesEach apply started (c + 1) channels js others × Receives apply others c later t
 
 -- the replica of a bundle, before it has a channel
 abbrev pub opening : BundleValue → Replica
