@@ -2,46 +2,16 @@
 programs."""
 from __future__ import annotations
 
-import os
-import re
 from collections.abc import Callable, Iterator
 from dataclasses import dataclass, field
-from enum import Enum
 from functools import partial
 
 from .gtids import UUID_FORM, Gtid, GtidSet, SourcesFull, gtid_in, set_in
-from .rows import MOST_BYTES, Change, Key, Row, RowFault, Rows, Schema, Table, Transaction, Value, keys_of
+from .rows import Change, Key, RowFault, Rows, Schema, Transaction, keys_of
+from .versions import COUNT_FORM, FORMATS, VERSION_3, VERSIONS, Format
+from .words import Cause, LineFault, ask, ask_limits, change_in, place_in, reference_in, table_in
 
 MOST_CHANNELS = 256
-GREATEST_NUMBER = 2**63 - 1
-# the first microsecond of the year 10000
-YEAR_10000 = 253_402_300_800_000_000
-
-NAME_FORM = re.compile(r"[a-z_][a-z0-9_]{0,63}")
-PLAIN = re.compile(r"[A-Za-z0-9_$-]")
-NAME_PART = re.compile(r"(?:[A-Za-z0-9_$-]|%[0-9a-f]{2})+")
-ESCAPE = re.compile(r"%[0-9a-f]{2}")
-COUNT_FORM = re.compile(r"0|[1-9][0-9]*")
-INT_FORM = re.compile(r"0|-?[1-9][0-9]*")
-BYTES_FORM = re.compile(r"x([0-9a-f]{2})*")
-
-
-class Cause(Enum):
-    """What is wrong with a line, in the order in which that is tested."""
-
-    KEYWORD = "keyword"
-    BODY = "body"
-    LIMIT = "limit"
-    SCHEMA = "schema"
-    STAMP = "stamp"
-
-
-class LineFault(Exception):
-    """A faulty line."""
-
-    def __init__(self, cause: Cause) -> None:
-        super().__init__(cause)
-        self.cause = cause
 
 
 class VersionFault(Exception):
@@ -62,44 +32,6 @@ class Refused(Exception):
     def __init__(self, line: str) -> None:
         super().__init__(line)
         self.line = line
-
-
-def is_short_name(word: str) -> bool:
-    """Whether a word is a name of versions 1 and 2."""
-    return NAME_FORM.fullmatch(word) is not None
-
-
-def is_name(word: str) -> bool:
-    """Whether a word is a name of version 3."""
-    escapes = ESCAPE.findall(word)
-    if not all(NAME_PART.fullmatch(part) for part in word.split(".")) or len(word) - 2 * len(escapes) > 512:
-        return False
-    return not any(PLAIN.fullmatch(chr(int(it[1:], 16))) for it in escapes)
-
-
-@dataclass(frozen=True)
-class Format:
-    """What a version asks of a text: its limits, its names, and whether it has the lines and numbers that an earlier one hasn't."""
-
-    version: str
-    is_name: Callable[[str], bool] = is_short_name
-    tables: int = 256
-    columns: int = 64
-    unique_keys: int = 8
-    changes: int = 65_536
-    most_bytes: int = MOST_BYTES
-    references: int = 0
-    assumptions: int = 0
-    has_opening: bool = True
-    has_stamps: bool = True
-    has_places: bool = False
-    has_hidden: bool = False
-
-
-VERSION_3 = Format("3", is_name, 65_536, 4_096, 64, 2**32 - 2, 2**32 - 1, 65_536, 65_536, has_places=True, has_hidden=True)
-FORMATS = {it.version: it for it in (Format("1", has_opening=False, has_stamps=False), Format("2"), VERSION_3)}
-# (the programs don't read version 3 yet, so it is read here only where this variable is set)
-VERSIONS = {it for it in FORMATS if it < "3" or os.environ.get("REFERENCE_VERSION_3")}
 
 
 @dataclass(frozen=True)
@@ -163,102 +95,6 @@ def assumption_order(assumption: str) -> tuple[int, str]:
     """The order of assumptions: by their words, and within one word by the bytes of what follows."""
     word, _, rest = assumption.partition(" ")
     return ASSUMPTIONS.index(word), rest
-
-
-def ask(holds: object, cause: Cause = Cause.BODY) -> None:
-    """Raises a fault of this cause where something doesn't hold."""
-    if not holds:
-        raise LineFault(cause)
-
-
-def value_in(word: str) -> Value:
-    """The value that a word spells."""
-    if word == "null":
-        return None
-    if BYTES_FORM.fullmatch(word):
-        return bytes.fromhex(word[1:])
-    ask(INT_FORM.fullmatch(word) and len(word) <= 20 and -(2**63) <= int(word) < 2**63)
-    return int(word)
-
-
-def image_in(words: list[str]) -> Row:
-    """The image that these words spell."""
-    ask(words)
-    return tuple(map(value_in, words))
-
-
-def ask_limits(image: Row, form: Format) -> None:
-    """An image has no more than so many values, and a value no more than so many bytes."""
-    ask(len(image) <= form.columns, Cause.LIMIT)
-    ask(all(not isinstance(it, bytes) or len(it) <= form.most_bytes for it in image), Cause.LIMIT)
-
-
-def change_in(word: str, body: str | None, form: Format) -> Change:
-    """The change of a change line, by its first word and the rest of the line. Limits of images are not tested."""
-    ask(body is not None)
-    table, *words = (body or "").split(" ")
-    ask(form.is_name(table))
-    if word != "upd":
-        image = image_in(words)
-        return Change(table, None, image) if word == "ins" else Change(table, image, None)
-    ask(words.count("|") == 1)
-    bar = words.index("|")
-    return Change(table, image_in(words[:bar]), image_in(words[bar + 1 :]))
-
-
-def count_in(word: str, most: int) -> int:
-    """The number that a count spells, or the one after the greatest that is told apart."""
-    ask(COUNT_FORM.fullmatch(word))
-    return min(int(word[:30]), most + 1)
-
-
-def columns_in(word: str, form: Format) -> tuple[int, ...]:
-    """The column numbers of a key."""
-    words = word.split(",")
-    ask(all(COUNT_FORM.fullmatch(it) for it in words) and len(set(words)) == len(words))
-    return tuple(count_in(it, form.columns) for it in words)
-
-
-def table_in(body: str | None, schema: Schema, form: Format) -> Table:
-    """The table of a `table` line, beside those that have come."""
-    ask(body is not None)
-    words, hidden = (body or "").split(" "), None
-    if form.has_hidden and len(words) > 4 and words[-2] == "hidden":
-        hidden = count_in(words[-1], form.columns)
-        words = words[:-2]
-    ask(len(words) >= 4 and len(words) % 2 == 0 and form.is_name(words[0]) and COUNT_FORM.fullmatch(words[1]))
-    ask(words[2::2] == ["pk"] + ["uk"] * (len(words) // 2 - 2))
-    keys = tuple(columns_in(it, form) for it in words[3::2])
-    count = count_in(words[1], form.columns)
-    ask(1 <= count <= form.columns and len(keys) - 1 <= form.unique_keys and len(schema) < form.tables, Cause.LIMIT)
-    ask(hidden is None or 1 <= hidden < count, Cause.LIMIT)
-    ask(words[0] not in schema and all(column < count for key in keys for column in key), Cause.SCHEMA)
-    return Table(words[0], count, keys, hidden or 0)
-
-
-def reference_in(body: str | None, schema: Schema, count: int) -> str:
-    """What an `fk` line says, beside so many that have come."""
-    ask(body is not None)
-    words = (body or "").split(" ")
-    ask(len(words) == 4 or words[4:] == ["cascade"])
-    child, columns, parent, key = words[:4]
-    ask(VERSION_3.is_name(child) and VERSION_3.is_name(parent))
-    numbers, number = columns_in(columns, VERSION_3), count_in(key, VERSION_3.unique_keys)
-    ask(count < VERSION_3.references, Cause.LIMIT)
-    ask(child in schema and parent in schema, Cause.SCHEMA)
-    ask(all(it < schema[child].columns for it in numbers) and number < len(schema[parent].keys), Cause.SCHEMA)
-    ask(len(numbers) == len(schema[parent].keys[number]), Cause.SCHEMA)
-    return body or ""
-
-
-def place_in(body: str | None) -> str:
-    """What a `place` line says."""
-    words = (body or "").split(" ")
-    ask(len(words) == 4 and VERSION_3.is_name(words[0]) and all(COUNT_FORM.fullmatch(it) for it in words[1::2]))
-    ask(words[2] == "-" or COUNT_FORM.fullmatch(words[2]))
-    ask(all(count_in(it, GREATEST_NUMBER) <= GREATEST_NUMBER for it in words[1::2]), Cause.LIMIT)
-    ask(words[2] == "-" or count_in(words[2], YEAR_10000) < YEAR_10000, Cause.LIMIT)
-    return body or ""
 
 
 def put_row(body: str | None, rows: Rows, form: Format) -> None:

@@ -116,6 +116,9 @@ feed_once : (apply : Apply) (c d : ℕ) (e : Event) → IsFeed apply c e → not
 feed_once apply c d (Receive x entry) h = refl
 feed_once apply c d e h = apart_once d e (between_apart apply d e h)
 
+both_once : (c : ℕ) (es fs : List Event) → list_all (λ e. not (is_position c e)) es ≡ true → list_all (λ e. not (is_position c e)) fs ≡ true → list_all (λ e. not (is_position c e)) (es ++ fs) ≡ true
+both_once c es fs first next = list_all-append (λ e. not (is_position c e)) es fs ∙ and_from (list_all (λ e. not (is_position c e)) es) (list_all (λ e. not (is_position c e)) fs) first next
+
 -- ---- events in turn
 
 -- events, and then others
@@ -131,11 +134,8 @@ pub applies_none : (apply : Apply) (r : Replica) → Applies apply r r
 applies_none apply r = record { events = []; between = tt; now = refl }
 
 pub applies_more : (apply : Apply) (r s t : Replica) → Applies apply r s → Applies apply s t → Applies apply r t
-applies_more apply r s t v w = record {
-  events = v.events ++ w.events;
-  between = all_append (IsBetween apply) v.events w.events v.between w.between;
-  now = then_run r s t v.events w.events v.now w.now;
-}
+applies_more apply r s t v w =
+    record { events = v.events ++ w.events; between = all_append (IsBetween apply) v.events w.events v.between w.between; now = then_run r s t v.events w.events v.now w.now }
 
 -- one event of them
 pub applies_step : (apply : Apply) (r t : Replica) (reply : Reply) (e : Event) → IsBetween apply e → t.site ≡ r.site → ◌≡◌ {A = Step} (reply, t.state) (step r.site r.state e) → Applies apply r t
@@ -160,12 +160,8 @@ receives_one apply r t c e more between took now = record {
 pub receives_more : (apply : Apply) (r s t : Replica) (c : ℕ) (xs ys : List Entry) → Receives apply r c xs s → Receives apply s c ys t → Receives apply r c (xs ++ ys) t
 receives_more apply r s t c xs ys v w =
     let later : received_on c r.site (after r.site r.state v.events) w.events ≡ ys = subst (λ (x : Replica). received_on c x.site x.state w.events ≡ ys) v.now w.got in
-    record {
-      events = v.events ++ w.events;
-      feeds = all_append (IsFeed apply c) v.events w.events v.feeds w.feeds;
-      now = then_run r s t v.events w.events v.now w.now;
-      got = received_append c r.site r.state v.events w.events ∙ (λ i. v.got i ++ later i);
-    }
+    let got = received_append c r.site r.state v.events w.events ∙ (λ i. v.got i ++ later i) in
+    record { events = v.events ++ w.events; feeds = all_append (IsFeed apply c) v.events w.events v.feeds w.feeds; now = then_run r s t v.events w.events v.now w.now; got = got }
 
 -- ---- what leaves a channel as it is seen
 
@@ -241,15 +237,9 @@ module _ (apply : Apply) (r : Replica) (c : ℕ) (channel : BundleChannel) (j : 
           all_sent = starts.asks.all_sent;
           all_received = received_append c r.site asked first_fed (between ++ (fed ++ rest)) ∙ (λ i. first i ++ behind i);
         };
-        once = list_all-append (λ e. not (is_position c e)) first_fed (between ++ (fed ++ rest))
-            ∙ and_from (list_all (λ e. not (is_position c e)) first_fed) (list_all (λ e. not (is_position c e)) (between ++ (fed ++ rest)))
-            (passes (IsFeed apply c) (λ e. not (is_position c e)) (feed_once apply c c) first_fed starts.received.feeds)
-            (list_all-append (λ e. not (is_position c e)) between (fed ++ rest)
-            ∙ and_from (list_all (λ e. not (is_position c e)) between) (list_all (λ e. not (is_position c e)) (fed ++ rest))
-            (passes (IsApart c) (λ e. not (is_position c e)) (apart_once c) between quiet)
-            (list_all-append (λ e. not (is_position c e)) fed rest
-            ∙ and_from (list_all (λ e. not (is_position c e)) fed) (list_all (λ e. not (is_position c e)) rest)
-            (passes (IsFeed apply c) (λ e. not (is_position c e)) (feed_once apply c c) fed receives.feeds)
+        once = both_once c first_fed (between ++ (fed ++ rest)) (passes (IsFeed apply c) (λ e. not (is_position c e)) (feed_once apply c c) first_fed starts.received.feeds)
+            (both_once c between (fed ++ rest) (passes (IsApart c) (λ e. not (is_position c e)) (apart_once c) between quiet)
+            (both_once c fed rest (passes (IsFeed apply c) (λ e. not (is_position c e)) (feed_once apply c c) fed receives.feeds)
             (passes (IsApart c) (λ e. not (is_position c e)) (apart_once c) rest apart)));
       }
 
@@ -374,11 +364,8 @@ starts_none apply r a c channel j all asks = record { asking = a; asks = asks; r
 
 pub starts_all : (apply : Apply) (r a t : Replica) (c : ℕ) (channel : BundleChannel) (j : JournalValue) (all : List Entry) → Asks r c channel j all a → Receives apply a c all t
     → Starts apply r c channel j all [] t
-starts_all apply r a t c channel j all asks received = record {
-  asking = a;
-  asks = subst (λ (es : List Entry). Asks r c channel j es a) (sym (append-nil all)) asks;
-  received = received;
-}
+starts_all apply r a t c channel j all asks received =
+    record { asking = a; asks = subst (λ (es : List Entry). Asks r c channel j es a) (sym (append-nil all)) asks; received = received }
 
 -- ---- the run
 
