@@ -21,6 +21,7 @@ from .random_bundles import SOURCES, BundleMaker
 from .random_logs import logs_text, options
 from .random_scripts import Made
 from .random_texts import SetWriter, TextBreaker
+from .random_version3 import Widener
 
 MOST_TOGETHER = 50
 MOST_LINES_AGAIN = 20_000
@@ -135,6 +136,16 @@ def version2(chance: Random) -> list[Run]:
     """A bundle of version 2, audited and applied."""
     text = text_of(bundle_lines(BundleMaker(chance).bundle(True), 2))
     return gtidrep(text, "audit", "apply", apply_words(chance))
+
+
+def version3(chance: Random) -> list[Run]:
+    """A bundle of version 3, audited in all ways and applied; now and then with a fault."""
+    maker = BundleMaker(chance)
+    narrow = Failovers(chance).bundle() if maker.is_one_in(3) else maker.bundle(True)
+    text = text_of(bundle_lines(Widener(chance).bundle(narrow), 3))
+    if maker.is_one_in(3):
+        text = TextBreaker(chance).texts(text)
+    return gtidrep(text, "audit", "audit --all", "audit --ordered", apply_words(chance), f"apply --ordered --workers {chance.choice([1, 2])}", "upgrade --to 3")
 
 
 def upgrade(chance: Random) -> list[Run]:
@@ -318,6 +329,8 @@ COMMAND_KINDS: dict[str, Callable[[Random], list[Run]]] = {
     "imports": imports,
     "histories": histories,
 }
+if "3" in VERSIONS:
+    COMMAND_KINDS["version3"] = version3
 SCRIPT_KINDS: dict[str, Callable[[Random], Made]] = {"scripts": random_scripts.one_replica, "networks": random_scripts.network}
 KINDS = [*SCRIPT_KINDS, *COMMAND_KINDS]
 
