@@ -98,7 +98,7 @@ fn push_unique(
 
 /// Adds the marks of the keys that a row of this table carries.
 fn push_marks_of(marks: &mut Vec<u64>, table: &Table, row: &Row) -> Result<(), AllocError>
-    requires { length table.now.uniques ≤ 8 }
+    requires { length table.now.uniques ≤ 64 }
     ensures { OnOk result (marks.new.items ≡ marks.old.items ++ map key_mark (keys_of_row table.now row.now)) }
 {
     let text = row.as_str().as_bytes();

@@ -5,13 +5,14 @@ use Rattle.journal.specs.Writing.{is_value_writable}
 use Rattle.row_images.specs.declared.value.Value.{Value}
 use Rattle.rows.specs.declared.change.Change.{Change}
 use Rattle.rows.specs.declared.change.Change.TheVariants as changes
+use Rattle.rows.specs.declared.limits.Limits.TheVariants.{Narrow}
 use Rattle.binlog_entries.specs.declared.limits.Limit.{Limit}
 use Rattle.binlog_entries.specs.declared.limits.Limit.TheVariants as limits
 
 -- the column of the first value that has too many bytes, of an image from this column on
 abbrev pub first_long : ℕ → List Value → Option ℕ
 first_long column [] = None
-first_long column (v ∷ vs) = if is_value_writable v then first_long (column + 1) vs else Some column
+first_long column (v ∷ vs) = if is_value_writable Narrow v then first_long (column + 1) vs else Some column
 
 -- an image of this table has too many columns, or none, or a value of too many bytes
 abbrev pub image_limit : List ℕ → List Value → Option Limit

@@ -2,9 +2,10 @@
 ghost use Rattle.std.specs.Prelude.{◌≡◌, ◌≤◌, length, IfOk};
 ghost use Rattle.journal.specs.Writing.{is_value_writable};
 ghost use Rattle.binlog_entries.specs.Limits.{first_long, image_limit, change_limit, changes_limit, limit_of};
+ghost use Rattle.rows.specs.declared.limits.Limits.TheVariants.{Narrow};
 
 use journal::Entry;
-use rows::{Change, Name, Row, Value};
+use rows::{Change, Limits, Name, Row, Value};
 use std::alloc::{AllocError, Global};
 
 /// What of an entry passes a limit of a journal's format.
@@ -19,7 +20,7 @@ pub enum Limit {
 }
 
 fn is_value_writable(value: &Value) -> bool
-    ensures { result ≡ is_value_writable value.now }
+    ensures { result ≡ is_value_writable Narrow value.now }
 {
     match value {
         Value::Null | Value::Int(_) => true,
@@ -48,7 +49,7 @@ fn image_limit(alloc: Global, table: &Name, image: &Row) -> Result<Option<Limit>
         let table = table.clone()?;
         return Ok(Some(Limit::Columns(table)));
     }
-    if !image.has_long_value() {
+    if !image.has_longer_value(Limits::Narrow.bytes()) {
         return Ok(None);
     }
     let Some(column) = first_long(alloc, image)? else {

@@ -9,6 +9,7 @@ use Rattle.row_images.specs.declared.value.Value.{Value}
 use Rattle.row_images.specs.declared.value.Value.TheVariants.{Int}
 use Rattle.rows.specs.declared.change.Change.TheVariants.{Insert, Update}
 use Rattle.rows.specs.declared.change.Transaction.{Transaction}
+use Rattle.rows.specs.declared.limits.Limits.TheVariants.{Narrow}
 use Rattle.rows.specs.declared.schema.Table.{Table}
 use Rattle.rows.specs.Conflicts.{conflicts}
 use Rattle.history.specs.World.{OrderedWorld, Entry, content, is_opened, IsSound, IsClosed}
@@ -16,7 +17,7 @@ use Rattle.history.specs.Commits.{IsCommitOrder}
 
 -- a table of two columns, the first of them its primary key
 abbrev pub accounts : Table
-accounts = record { name = 97 ∷ []; columns = 2; primary = 0 ∷ []; uniques = [] }
+accounts = record { name = 97 ∷ []; columns = 2; primary = 0 ∷ []; uniques = []; hidden = 0; limits = Narrow }
 
 abbrev pub account : ℕ → ℕ → List Value
 account id balance = Int (pos id) ∷ Int (pos balance) ∷ []

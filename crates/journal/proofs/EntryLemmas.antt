@@ -10,6 +10,7 @@ use Rattle.gtid_set.specs.Laws.{HaveNumbers}
 use Rattle.gtid_set.specs.Sets.{Gtids, greatest}
 use Rattle.gtid_set.proofs.SetLemmas.{set_push, union_empty, same_members, gtid_tied}
 use Rattle.journal.specs.declared.Entry.{Entry}
+use Rattle.rows.specs.declared.limits.Limits.TheVariants.{Wide}
 use Rattle.journal.specs.Writing.{is_number, is_txn_writable, is_writable}
 use Rattle.journal.specs.Journals.{gtids_of, AreNew, IsJournal}
 use Rattle.std.proofs.lemmas.Bool.{and_parts}
@@ -89,39 +90,39 @@ any_same : (g : Gtid) (es : List Entry) → list_any (eq_by_cmp gtid_cmp g) (map
 any_same g [] = refl
 any_same g (e ∷ es) = λ i. gtid_tied g e.gtid i || any_same g es i
 
-number_at : (g : Gtid) (es : List Entry) → list_all is_writable es ≡ true → list_any (λ (e : Entry). same_gtid g e.gtid) es ≡ true → IsNumbered g.number
+number_at : (g : Gtid) (es : List Entry) → list_all (is_writable Wide) es ≡ true → list_any (λ (e : Entry). same_gtid g e.gtid) es ≡ true → IsNumbered g.number
 number_at g [] all there = absurd cc
 number_at g (e ∷ es) all there =
-    let p = and_parts (is_writable e) (list_all is_writable es) all in
-    let number = entry_number e.gtid.number (and_parts (is_number e.gtid.number) (is_txn_writable e.txn) p.0).0 in
+    let p = and_parts (is_writable Wide e) (list_all (is_writable Wide) es) all in
+    let number = entry_number e.gtid.number (and_parts (is_number e.gtid.number) (is_txn_writable Wide e.txn) p.0).0 in
     of_either (same_gtid g e.gtid) (list_any (λ (e : Entry). same_gtid g e.gtid) es)
     (λ same. subst (λ (q : Gtid). IsNumbered q.number) (sym (same_is_equal g e.gtid same)) number)
     (number_at g es p.1)
     there
 
 -- an entry that can be written has a number in range
-entries_numbers : (es : List Entry) → list_all is_writable es ≡ true → HaveNumbers (gtids_of es)
+entries_numbers : (es : List Entry) → list_all (is_writable Wide) es ≡ true → HaveNumbers (gtids_of es)
 entries_numbers es all g there =
     number_at g es all (sym (set.contains-from_list gtid_total (map (λ (e : Entry). e.gtid) es) g ∙ any_same g es) ∙ there)
 
 -- a journal with one entry more
-pub journal_push : (previous : Gtids) (es : List Entry) (e : Entry) → IsJournal previous es → set.contains (set.union previous (gtids_of es)) e.gtid ≡ false → is_writable e ≡ true → IsJournal previous (es ++ e ∷ [])
+pub journal_push : (previous : Gtids) (es : List Entry) (e : Entry) → IsJournal previous es → set.contains (set.union previous (gtids_of es)) e.gtid ≡ false → is_writable Wide e ≡ true → IsJournal previous (es ++ e ∷ [])
 journal_push previous es e kept new writable = record {
   numbers = kept.numbers;
   new = new_push previous es e kept.new new;
-  writable = all_push is_writable es e kept.writable writable;
+  writable = all_push (is_writable Wide) es e kept.writable writable;
 }
 
 -- ... with its first entries alone
 pub journal_take : (n : ℕ) (previous : Gtids) (es : List Entry) → IsJournal previous es → IsJournal previous (take n es)
-journal_take n previous es kept = record { numbers = kept.numbers; new = new_take n previous es kept.new; writable = all_take is_writable n es kept.writable }
+journal_take n previous es kept = record { numbers = kept.numbers; new = new_take n previous es kept.new; writable = all_take (is_writable Wide) n es kept.writable }
 
 -- ... and with its first entries in the previous set
 pub journal_drop : (n : ℕ) (previous : Gtids) (es : List Entry) → IsJournal previous es → IsJournal (set.union previous (gtids_of (take n es))) (drop n es)
 journal_drop n previous es kept = record {
-  numbers = union_numbers previous (gtids_of (take n es)) kept.numbers (entries_numbers (take n es) (all_take is_writable n es kept.writable));
+  numbers = union_numbers previous (gtids_of (take n es)) kept.numbers (entries_numbers (take n es) (all_take (is_writable Wide) n es kept.writable));
   new = new_drop n previous es kept.new;
-  writable = all_drop is_writable n es kept.writable;
+  writable = all_drop (is_writable Wide) n es kept.writable;
 }
 
 -- a GTID is in a journal's whole set where it is in the previous set or that of an entry

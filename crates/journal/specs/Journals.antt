@@ -5,6 +5,7 @@ use Rattle.std.specs.FinSet as set
 use Rattle.gtid_set.specs.Laws.{HaveNumbers}
 use Rattle.gtid_set.specs.Sets.{Gtids}
 use Rattle.journal.specs.declared.Entry.{Entry}
+use Rattle.rows.specs.declared.limits.Limits.TheVariants.{Wide}
 use Rattle.journal.specs.Writing.{is_writable}
 
 pub record JournalValue : Type 0 where
@@ -32,4 +33,4 @@ AreNew seen (entry ∷ entries) = (set.contains seen entry.gtid ≡ false) × Ar
 pub record IsJournal (previous : Gtids) (entries : List Entry) : Type 0 where
   pub numbers : HaveNumbers previous
   pub new : AreNew previous entries
-  pub writable : list_all is_writable entries ≡ true
+  pub writable : list_all (is_writable Wide) entries ≡ true

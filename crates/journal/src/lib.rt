@@ -4,9 +4,9 @@
 //! What a contract sees: a `Journal` is the record of its previous set and its list of entries. No contract shows that a clone of an
 //! `Entry` shares its images.
 //!
-//! Kept by the type (`IsJournal`): no GTID is there twice or in the previous set, and each entry can be written as text: its number is 1
-//! to 2^63 - 1, it has at most 65,536 changes, images of 1 to 64 values, and values of at most 65,535 bytes. The numbers of the previous
-//! set are 1 to 2^63 - 1 too.
+//! Kept by the type (`IsJournal`): no GTID is there twice or in the previous set, and each entry can be written as text by the
+//! widest limits: its number is 1 to 2^63 - 1, it has at most 4,294,967,294 changes, images of 1 to 4,096 values, and values of at most
+//! 4,294,967,295 bytes. The numbers of the previous set are 1 to 2^63 - 1 too.
 //!
 //! The contract of each call is one equation. `previous_after_purge` and the like fail if out of memory, or if a set that is made on the
 //! way is full (`fault`).
@@ -19,13 +19,14 @@ ghost use Rattle.std.specs.List.{list_all, list_any};
 ghost use Rattle.gtid_text.specs.Gtids.{same_gtid};
 ghost use Rattle.std.specs.FinSet as set;
 ghost use Rattle.gtid_set.specs.Laws.{HaveNumbers};
+ghost use Rattle.rows.specs.declared.limits.Limits.TheVariants.{Wide};
 ghost use Rattle.journal.specs.Journals.{gtids_of, previous_after_purge, whole, IsJournal};
 ghost use Rattle.journal.specs.Faults.{IsAddingFault, IsPurgedFault};
 ghost use Rattle.journal.specs.Writing.{is_value_writable, is_image_writable, is_change_writable, is_txn_writable, is_writable, is_number};
 
 use gtid_set::{GtidSet, SetFault};
 use gtid_text::Gtid;
-use rows::{Change, Row, Transaction, Value};
+use rows::{Change, Limits, Row, Transaction, Value};
 use std::alloc::{AllocError, Global};
 use std::marker::Model;
 use std::mem;
@@ -54,50 +55,50 @@ impl Clone for Entry {
     }
 }
 
-/// Whether no value has more than 65,535 bytes.
-#[tactic(auto, using(crate::proofs::WritableLemmas::values_writable))]
-fn are_values_writable(image: &Row) -> bool
-    ensures { result ≡ list_all is_value_writable image.now }
+/// Whether no value has more bytes than the limits say.
+fn are_values_writable(image: &Row, limits: Limits) -> bool
+    ensures { result ≡ list_all (is_value_writable limits) image.now }
 {
-    !image.has_long_value()
+    !image.has_longer_value(limits.bytes())
 }
 
-/// Whether an image can be written: 1 to 64 values of at most 65,535 bytes (our own limits).
-pub fn is_image_writable(image: &Row) -> bool
-    ensures { result ≡ is_image_writable image.now }
+/// Whether an image can be written: it has at least one value, and no more values and no longer ones than the limits say.
+pub fn is_image_writable(image: &Row, limits: Limits) -> bool
+    ensures { result ≡ is_image_writable limits image.now }
 {
     let values = image.len();
-    1 <= values && values <= 64 && are_values_writable(image)
+    1 <= values && values <= limits.columns() as usize && are_values_writable(image, limits)
 }
 
-/// Whether a change can be written: each image has 1 to 64 values of at most 65,535 bytes (our own limits).
-pub fn is_change_writable(change: &Change) -> bool
-    ensures { result ≡ is_change_writable change.now }
+/// Whether a change can be written: each of its images can be (`is_image_writable`).
+pub fn is_change_writable(change: &Change, limits: Limits) -> bool
+    ensures { result ≡ is_change_writable limits change.now }
 {
     match change {
-        Change::Insert { table: _, after } => is_image_writable(after),
-        Change::Delete { table: _, before } => is_image_writable(before),
+        Change::Insert { table: _, after } => is_image_writable(after, limits),
+        Change::Delete { table: _, before } => is_image_writable(before, limits),
         Change::Update {
             table: _,
             before,
             after,
-        } => is_image_writable(before) && is_image_writable(after),
+        } => is_image_writable(before, limits) && is_image_writable(after, limits),
     }
 }
 
-fn are_changes_writable(changes: &[Change]) -> bool
-    ensures { result ≡ list_all is_change_writable changes.now }
+fn are_changes_writable(changes: &[Change], limits: Limits) -> bool
+    ensures { result ≡ list_all (is_change_writable limits) changes.now }
 {
-    changes.iter().all(|change| is_change_writable(change))
+    changes
+        .iter()
+        .all(|change| is_change_writable(change, limits))
 }
 
-/// Whether a transaction can be written: at most 65,536 changes, images of 1 to 64 values, and
-/// values of at most 65,535 bytes (our own limits).
-pub fn is_txn_writable(txn: &Transaction) -> bool
-    ensures { result ≡ is_txn_writable txn.now }
+/// Whether a transaction can be written: it has no more changes than the limits say, and each can be written.
+pub fn is_txn_writable(txn: &Transaction, limits: Limits) -> bool
+    ensures { result ≡ is_txn_writable limits txn.now }
 {
     let changes = txn.changes.as_slice();
-    changes.len() <= 65_536 && are_changes_writable(changes)
+    changes.len() <= limits.changes() && are_changes_writable(changes, limits)
 }
 
 /// Whether a transaction number is in range.
@@ -111,10 +112,10 @@ pub fn is_number(number: u64) -> bool
 impl Entry {
     /// Whether the entry can be written: its number is 1 to 9223372036854775807 ("GTID Format and
     /// Storage"; the greatest number is our own) and its transaction can be written.
-    pub fn is_writable(&self) -> bool
-        ensures { result ≡ is_writable self.now }
+    pub fn is_writable(&self, limits: Limits) -> bool
+        ensures { result ≡ is_writable limits self.now }
     {
-        is_number(self.gtid.number) && is_txn_writable(&self.txn)
+        is_number(self.gtid.number) && is_txn_writable(&self.txn, limits)
     }
 }
 
@@ -199,7 +200,7 @@ impl Journal {
     /// Appends an entry.
     pub fn push(&mut self, entry: Entry) -> Result<(), AllocError>
         requires new { set.contains (whole self.old) entry.gtid ≡ false }
-        requires writable { is_writable entry ≡ true }
+        requires writable { is_writable Wide entry ≡ true }
         ensures ok { OnOk result (self.new ≡ record self.old { entries = self.old.entries ++ entry ∷ [] }) }
         ensures err { OnErr result (self.new ≡ self.old) }
     {

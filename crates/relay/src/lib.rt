@@ -20,6 +20,7 @@ ghost use Rattle.journal.specs.Journals.{previous_after_purge, whole};
 ghost use Rattle.gtid_set.specs.Full.{IsFullExactly};
 ghost use Rattle.gtid_set.specs.Laws.{HaveNumbers};
 ghost use Rattle.gtid_set.specs.declared.fault.SetFault.TheVariants.{Memory};
+ghost use Rattle.rows.specs.declared.limits.Limits.TheVariants.{Wide};
 ghost use Rattle.journal.specs.Writing.{is_writable};
 ghost use Rattle.relay.specs.Own.{without_last, with_last, purge_to, IsTooMany, IsPurgeFault};
 ghost use Rattle.relay.specs.declared.PurgeFault.TheVariants.{TooMany, Set};
@@ -223,7 +224,7 @@ impl OwnJournal {
     /// Appends an entry. It can be taken back until something else changes.
     pub fn append(&mut self, alloc: Global, entry: Entry) -> Result<(), SetFault>
         requires new { set.contains (whole self.old.journal) entry.gtid ≡ false }
-        requires writable { is_writable entry ≡ true }
+        requires writable { is_writable Wide entry ≡ true }
         ensures ok { OnOk result (self.new.journal ≡ with_last entry self.old.journal) }
         ensures undoable { OnOk result (self.new.undoable ≡ true) }
         ensures err { OnErr result (self.new.journal ≡ self.old.journal) }

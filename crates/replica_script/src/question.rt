@@ -165,7 +165,7 @@ fn name_in(alloc: Global, word: &[u8]) -> Result<Option<Name>, AllocError> {
     let Ok(text) = std::str::from_utf8(word) else {
         return Ok(None);
     };
-    match Name::new(String::from_str(alloc, text)?) {
+    match Name::short(String::from_str(alloc, text)?) {
         Ok(name) => Ok(Some(name)),
         Err(NameFault::NotAName) => Ok(None),
         Err(NameFault::Memory) => Err(AllocError),

@@ -37,17 +37,17 @@ image_next t w r m first rest some more = ap (λ k. is_some (later k)) (sym more
 
 -- ---- long words
 
-long_step : (t w : List ℕ) (m : Option (List ℕ)) → w ≡ first_word t → m ≡ others t → (is_long_word w || list_any is_long_word (more_words m)) ≡ list_any is_long_word (words_of t)
-long_step t w m first rest = ap (list_any is_long_word) ((λ i. first i ∷ more_words (rest i)) ∙ sym (words_cut t))
+long_step : (most : ℕ) (t w : List ℕ) (m : Option (List ℕ)) → w ≡ first_word t → m ≡ others t → (is_long_word most w || list_any (is_long_word most) (more_words m)) ≡ list_any (is_long_word most) (words_of t)
+long_step most t w m first rest = ap (list_any (is_long_word most)) ((λ i. first i ∷ more_words (rest i)) ∙ sym (words_cut t))
 
-pub long_here : (t w : List ℕ) (m : Option (List ℕ)) → w ≡ first_word t → m ≡ others t → is_long_word w ≡ true → true ≡ list_any is_long_word (words_of t)
-long_here t w m first rest long = sym (ap (λ b. b || list_any is_long_word (more_words m)) long) ∙ long_step t w m first rest
+pub long_here : (most : ℕ) (t w : List ℕ) (m : Option (List ℕ)) → w ≡ first_word t → m ≡ others t → is_long_word most w ≡ true → true ≡ list_any (is_long_word most) (words_of t)
+long_here most t w m first rest long = sym (ap (λ b. b || list_any (is_long_word most) (more_words m)) long) ∙ long_step most t w m first rest
 
-pub long_last : (t w : List ℕ) (m : Option (List ℕ)) → w ≡ first_word t → m ≡ others t → is_long_word w ≡ false → m ≡ None → false ≡ list_any is_long_word (words_of t)
-long_last t w m first rest short last = sym ((λ i. short i || list_any is_long_word (more_words (last i)))) ∙ long_step t w m first rest
+pub long_last : (most : ℕ) (t w : List ℕ) (m : Option (List ℕ)) → w ≡ first_word t → m ≡ others t → is_long_word most w ≡ false → m ≡ None → false ≡ list_any (is_long_word most) (words_of t)
+long_last most t w m first rest short last = sym ((λ i. short i || list_any (is_long_word most) (more_words (last i)))) ∙ long_step most t w m first rest
 
-pub long_next : (t w r : List ℕ) (m : Option (List ℕ)) → w ≡ first_word t → m ≡ others t → is_long_word w ≡ false → m ≡ Some r → list_any is_long_word (words_of r) ≡ list_any is_long_word (words_of t)
-long_next t w r m first rest short more = sym (λ i. short i || list_any is_long_word (more_words (more i))) ∙ long_step t w m first rest
+pub long_next : (most : ℕ) (t w r : List ℕ) (m : Option (List ℕ)) → w ≡ first_word t → m ≡ others t → is_long_word most w ≡ false → m ≡ Some r → list_any (is_long_word most) (words_of r) ≡ list_any (is_long_word most) (words_of t)
+long_next most t w r m first rest short more = sym (λ i. short i || list_any (is_long_word most) (more_words (more i))) ∙ long_step most t w m first rest
 
 -- ---- how many words, and the word at a place
 

@@ -24,7 +24,7 @@ use Rattle.row_images.specs.declared.value.Value.{Value}
 use Rattle.row_images.specs.declared.value.Value.TheVariants.{Null, Int, Bytes}
 use Rattle.row_images.specs.Parts.{parts_of, joined_by}
 use Rattle.row_images.specs.Order.{row_eq, value_cmp}
-use Rattle.row_images.specs.Values.{value_text, value_of, FitsValue, is_null, is_too_long, is_long_word}
+use Rattle.row_images.specs.Values.{value_text, value_of, FitsValue, is_null, is_longer, is_long_word}
 use Rattle.row_images.specs.Images.{words_of, values_text, AreValues, image_of, values_in}
 use Rattle.row_images.proofs.PartLaws.{parts_joined, words_cut}
 use Rattle.row_images.proofs.ValueLaws.{value_of-text, no_digit}
@@ -126,34 +126,34 @@ null_there vs k w fits e =
 
 -- ---- long values
 
-digits_short : (w : List ℕ) → list_all is_ascii_digit w ≡ true → is_long_word w ≡ false
-digits_short [] all = refl
-digits_short (b ∷ bs) all = rw (no_digit b 120 refl (and_parts (is_ascii_digit b) (list_all is_ascii_digit bs) all).0) refl
+digits_short : (most : ℕ) (w : List ℕ) → list_all is_ascii_digit w ≡ true → is_long_word most w ≡ false
+digits_short most [] all = refl
+digits_short most (b ∷ bs) all = rw (no_digit b 120 refl (and_parts (is_ascii_digit b) (list_all is_ascii_digit bs) all).0) refl
 
-twice : (n : ℕ) → ltb 131070 (2 * n) ≡ ltb 65535 n
-twice n = grind (arith, nat_tests)
+twice : (most n : ℕ) → ltb (2 * most) (2 * n) ≡ ltb most n
+twice most n = grind (arith, nat_tests)
 
-long_word : (v : Value) → FitsValue v → is_long_word (value_text v) ≡ is_too_long v
-long_word Null fits = refl
-long_word (Int (pos n)) fits = digits_short (decimal n) (digits_decimal own n (omega (arith, fits)))
-long_word (Int (negsuc n)) fits = refl
-long_word (Bytes bs) fits = ap (λ n. ltb 131070 n) (length-encode_with lower_digits bs) ∙ twice (length bs)
+long_word : (most : ℕ) (v : Value) → FitsValue v → is_long_word most (value_text v) ≡ is_longer most v
+long_word most Null fits = refl
+long_word most (Int (pos n)) fits = digits_short most (decimal n) (digits_decimal own n (omega (arith, fits)))
+long_word most (Int (negsuc n)) fits = refl
+long_word most (Bytes bs) fits = ap (λ n. ltb (2 * most) n) (length-encode_with lower_digits bs) ∙ twice most (length bs)
 
-long_words : (vs : List Value) → AreValues vs → list_any is_long_word (texts vs) ≡ list_any is_too_long vs
-long_words [] fits = refl
-long_words (v ∷ vs) fits = λ i. long_word v fits.0 i || long_words vs fits.1 i
+long_words : (most : ℕ) (vs : List Value) → AreValues vs → list_any (is_long_word most) (texts vs) ≡ list_any (is_longer most) vs
+long_words most [] fits = refl
+long_words most (v ∷ vs) fits = λ i. long_word most v fits.0 i || long_words most vs fits.1 i
 
-any_long_in : (t : List ℕ) → values_text (values_in t) ≡ t → 0 < length t → list_any is_long_word (words_of t) ≡ list_any is_too_long (values_in t)
-any_long_in t same some = ap (list_any is_long_word) (row_words t same some) ∙ long_words (values_in t) (values_fit t)
+any_long_in : (most : ℕ) (t : List ℕ) → values_text (values_in t) ≡ t → 0 < length t → list_any (is_long_word most) (words_of t) ≡ list_any (is_longer most) (values_in t)
+any_long_in most t same some = ap (list_any (is_long_word most)) (row_words t same some) ∙ long_words most (values_in t) (values_fit t)
 
-pub any_long : (t : List ℕ) → values_text (values_in t) ≡ t → list_any is_long_word (words_of t) ≡ list_any is_too_long (values_in t)
+pub any_long : (most : ℕ) (t : List ℕ) → values_text (values_in t) ≡ t → list_any (is_long_word most) (words_of t) ≡ list_any (is_longer most) (values_in t)
 unfolding parts_of
-any_long [] same = ap (list_any is_too_long) (sym none_in_nothing)
-any_long (b ∷ bs) same = any_long_in (b ∷ bs) same (omega arith)
+any_long most [] same = ap (list_any (is_longer most)) (sym none_in_nothing)
+any_long most (b ∷ bs) same = any_long_in most (b ∷ bs) same (omega arith)
 
-long_length : (w : List ℕ) → is_long_word w ≡ true → 131070 < length w
-long_length [] long = absurd cc
-long_length (b ∷ bs) long = let lt = ltb-true 131070 (length bs) (and_parts (eqb b 120) (ltb 131070 (length bs)) long).1 in omega (arith, lt)
+long_length : (most : ℕ) (w : List ℕ) → is_long_word most w ≡ true → 2 * most < length w
+long_length most [] long = absurd cc
+long_length most (b ∷ bs) long = let lt = ltb-true (2 * most) (length bs) (and_parts (eqb b 120) (ltb (2 * most) (length bs)) long).1 in omega (arith, lt)
 
 either : {A : Type 0} (b d : Bool) → (b || d) ≡ true → (b ≡ true → A) → (d ≡ true → A) → A
 either true d e one other = one refl
@@ -163,18 +163,18 @@ one_of : (b : Bool) → (b || false) ≡ true → b ≡ true
 one_of true e = refl
 one_of false e = e
 
-long_joined : (ws : List (List ℕ)) → list_any is_long_word ws ≡ true → 131070 < length (joined_by 32 ws)
-long_joined [] any = absurd cc
-long_joined (w ∷ []) any = long_length w (one_of (is_long_word w) any)
-long_joined (w ∷ x ∷ ws) any =
+long_joined : (most : ℕ) (ws : List (List ℕ)) → list_any (is_long_word most) ws ≡ true → 2 * most < length (joined_by 32 ws)
+long_joined most [] any = absurd cc
+long_joined most (w ∷ []) any = long_length most w (one_of (is_long_word most w) any)
+long_joined most (w ∷ x ∷ ws) any =
     let whole = length-append w (32 ∷ joined_by 32 (x ∷ ws)) in
-    either (is_long_word w) (list_any is_long_word (x ∷ ws)) any
-    (λ long. let lt = long_length w long in omega (arith, whole, lt))
-    (λ more. let lt = long_joined (x ∷ ws) more in omega (arith, whole, lt))
+    either (is_long_word most w) (list_any (is_long_word most) (x ∷ ws)) any
+    (λ long. let lt = long_length most w long in omega (arith, whole, lt))
+    (λ more. let lt = long_joined most (x ∷ ws) more in omega (arith, whole, lt))
 
 -- a text that is shorter than such a word has none
-pub short_text : (t : List ℕ) → length t ≤ 131070 → false ≡ list_any is_long_word (words_of t)
-short_text t le = sym (false_from_ne_true _ (λ any. let lt = long_joined (words_of t) any in let same = ap (λ (x : List ℕ). length x) (parts_joined 32 t) in absurd (omega (arith, le, lt, same))))
+pub short_text : (most : ℕ) (t : List ℕ) → length t ≤ 2 * most → false ≡ list_any (is_long_word most) (words_of t)
+short_text most t le = sym (false_from_ne_true _ (λ any. let lt = long_joined most (words_of t) any in let same = ap (λ (x : List ℕ). length x) (parts_joined 32 t) in absurd (omega (arith, le, lt, same))))
 
 -- ---- rows are equal where their texts are
 

@@ -85,13 +85,13 @@ is_null Null = true
 is_null (Int n) = false
 is_null (Bytes b) = false
 
--- more than 65535 bytes
-abbrev pub is_too_long : Value → Bool
-is_too_long Null = false
-is_too_long (Int n) = false
-is_too_long (Bytes b) = nat_lt 65535 (length b)
+-- more than this many bytes
+abbrev pub is_longer : ℕ → Value → Bool
+is_longer most Null = false
+is_longer most (Int n) = false
+is_longer most (Bytes b) = nat_lt most (length b)
 
 -- the word of such a value: `x` and two digits for each byte
-abbrev pub is_long_word : List ℕ → Bool
-is_long_word [] = false
-is_long_word (b ∷ bs) = b == 120 && nat_lt 131070 (length bs)
+abbrev pub is_long_word : ℕ → List ℕ → Bool
+is_long_word most [] = false
+is_long_word most (b ∷ bs) = b == 120 && nat_lt (2 * most) (length bs)

@@ -4,7 +4,7 @@ ghost use Rattle.std.specs.List.{list_any};
 ghost use Rattle.std.specs.Ordering.{eq_by_cmp};
 ghost use Rattle.row_images.specs.Order.{value_cmp};
 ghost use Rattle.row_images.specs.declared.value.Value.TheVariants.{Null};
-ghost use Rattle.row_images.specs.Values.{value_text, is_null, is_too_long, is_long_word};
+ghost use Rattle.row_images.specs.Values.{value_text, is_null, is_longer, is_long_word};
 ghost use Rattle.row_images.specs.Images.{words_of, values_text, image_of, AreValues};
 
 use crate::first_value::{rest_from, value_len};
@@ -96,23 +96,23 @@ fn image_len(text: &[u8]) -> Option<usize>
     }
 }
 
-/// Whether a word has `x` and the digits of more than 65,535 bytes.
-fn is_long_word(word: &[u8]) -> bool
-    ensures { result ≡ is_long_word word.now }
+/// Whether a word has `x` and the digits of more than this many bytes.
+fn is_long_word(word: &[u8], most: u32) -> bool
+    ensures { result ≡ is_long_word most word.now }
 {
     match word {
-        [b'x', digits @ ..] => digits.len() > 131_070,
+        [b'x', digits @ ..] => digits.len() > 2 * most as usize,
         _ => false,
     }
 }
 
-fn has_long_word(text: &[u8]) -> bool
-    ensures { result ≡ list_any is_long_word (words_of text.now) }
+fn has_long_word(text: &[u8], most: u32) -> bool
+    ensures { result ≡ list_any (is_long_word most) (words_of text.now) }
 {
     let mut left = text;
     'words: loop {
         let (word, more) = cut(left);
-        if is_long_word(word) {
+        if is_long_word(word, most) {
             return true;
         }
         match more {
@@ -244,15 +244,15 @@ impl Row {
         }
     }
 
-    /// Whether a value has more than 65,535 bytes.
-    pub fn has_long_value(&self) -> bool
-        ensures { result ≡ list_any is_too_long self.now }
+    /// Whether a value has more than this many bytes.
+    pub fn has_longer_value(&self, most: u32) -> bool
+        ensures { result ≡ list_any (is_longer most) self.now }
     {
         let text = self.text.as_slice();
         // (most texts are shorter than the word of such a value)
-        if text.len() <= 131_070 {
+        if text.len() <= 2 * most as usize {
             return false;
         }
-        has_long_word(text)
+        has_long_word(text, most)
     }
 }

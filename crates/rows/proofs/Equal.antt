@@ -10,6 +10,9 @@ use Rattle.rows.specs.declared.change.Change.{Change}
 use Rattle.rows.specs.declared.change.Change.TheVariants.{Insert, Delete, Update}
 use Rattle.rows.specs.declared.change.Key.{Key}
 use Rattle.rows.specs.contracts.change.ChangePartialEq.TheImpl as it
+use Rattle.rows.specs.contracts.limits.LimitsPartialEq.TheImpl as limits
+use Rattle.rows.specs.declared.limits.Limits.{Limits}
+use Rattle.rows.specs.declared.limits.Limits.TheVariants.{Narrow, Wide}
 use Rattle.rows.specs.Fits.{table_of}
 use Rattle.rows.specs.declared.schema.Table.{Table}
 use Rattle.rows.specs.Prepared.{table_eq}
@@ -38,25 +41,39 @@ keys-Decide a b =
           (and_from (a.index == b.index) (row_eq a.values b.values) ((unsigned_Decides a.index b.index).1 (ap (λ (k : Key). k.index) e)) ((rows-Decide a.values b.values).1 (ap (λ (k : Key). k.values) e))),
     )
 
+limits-Decide : (a b : Limits) → Decides (limits.eq-value.it a b) (a ≡ b)
+limits-Decide Narrow Narrow = (λ _ _. Narrow, λ _ _. true)
+limits-Decide Narrow Wide = (λ e. cc, λ e. cc)
+limits-Decide Wide Narrow = (λ e. cc, λ e. cc)
+limits-Decide Wide Wide = (λ _ _. Wide, λ _ _. true)
+
 pub tables-Decide : (a b : Table) → Decides (table_eq a b) (a ≡ b)
 tables-Decide a b =
     let n = eq_by_cmp (slice_cmp nat_cmp) a.name b.name in
     let c = a.columns == b.columns in
     let p = pointwise nat_eq a.primary b.primary in
     let u = pointwise (pointwise nat_eq) a.uniques b.uniques in
+    let h = a.hidden == b.hidden in
+    let l = limits.eq-value.it a.limits b.limits in
     let same : table_eq a b ≡ true → a ≡ b = λ e.
-    let x = and_parts n (c && (p && u)) e in
-    let y = and_parts c (p && u) x.1 in
-    let z = and_parts p u y.1 in
+    let x = and_parts n (c && (p && (u && (h && l)))) e in
+    let y = and_parts c (p && (u && (h && l))) x.1 in
+    let z = and_parts p (u && (h && l)) y.1 in
+    let v = and_parts u (h && l) z.1 in
+    let w = and_parts h l v.1 in
     let name = (names-Decide a.name b.name).0 x.0 in
     let columns = (unsigned_Decides a.columns b.columns).0 y.0 in
     let primary = (columns-Decide a.primary b.primary).0 z.0 in
-    let uniques = (lists-Decide a.uniques b.uniques).0 z.1 in
-    λ j. record { name = name j; columns = columns j; primary = primary j; uniques = uniques j } in (
+    let uniques = (lists-Decide a.uniques b.uniques).0 v.0 in
+    let hidden = (unsigned_Decides a.hidden b.hidden).0 w.0 in
+    let same_limits = (limits-Decide a.limits b.limits).0 w.1 in
+    λ j. record { name = name j; columns = columns j; primary = primary j; uniques = uniques j; hidden = hidden j; limits = same_limits j } in (
       same,
-      λ e. and_from n (c && (p && u)) ((names-Decide a.name b.name).1 (ap (λ (t : Table). t.name) e))
-          (and_from c (p && u) ((unsigned_Decides a.columns b.columns).1 (ap (λ (t : Table). t.columns) e))
-          (and_from p u ((columns-Decide a.primary b.primary).1 (ap (λ (t : Table). t.primary) e)) ((lists-Decide a.uniques b.uniques).1 (ap (λ (t : Table). t.uniques) e)))),
+      λ e. and_from n (c && (p && (u && (h && l)))) ((names-Decide a.name b.name).1 (ap (λ (t : Table). t.name) e))
+          (and_from c (p && (u && (h && l))) ((unsigned_Decides a.columns b.columns).1 (ap (λ (t : Table). t.columns) e))
+          (and_from p (u && (h && l)) ((columns-Decide a.primary b.primary).1 (ap (λ (t : Table). t.primary) e))
+          (and_from u (h && l) ((lists-Decide a.uniques b.uniques).1 (ap (λ (t : Table). t.uniques) e))
+          (and_from h l ((unsigned_Decides a.hidden b.hidden).1 (ap (λ (t : Table). t.hidden) e)) ((limits-Decide a.limits b.limits).1 (ap (λ (t : Table). t.limits) e)))))),
     )
 
 -- the images of a change, or those of another kind of change

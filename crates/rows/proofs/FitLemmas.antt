@@ -19,6 +19,9 @@ use Rattle.rows.specs.Apply.{Rows, apply}
 use Rattle.rows.specs.Database.{AreRowsOf, NoTwoCarry}
 use Rattle.rows.specs.Fits.{row_misfit, row_misfit_in, IsRowOf, rank, first_cause, table_of, misfit_in, count_misfit, change_misfit, or_later, misfit_from, misfit, Fits}
 use Rattle.rows.specs.Keys.{find_table, carried_keys}
+use Rattle.rows.specs.Limits.{most_changes}
+use Rattle.rows.specs.declared.limits.Limits.{Limits}
+use Rattle.rows.specs.declared.limits.Limits.TheVariants.{Narrow, Wide}
 use Rattle.rows.specs.Patch.{SameTables}
 use Rattle.rows.specs.Prepared.{same_table, same_tables}
 use Rattle.rows.specs.WriteSet.{is_among, left_by_change, or_earlier, left_by_changes, left_by}
@@ -46,17 +49,25 @@ no_count : (p : Bool) → cond p (Some TooMany) None ≡ None → p ≡ false
 no_count true e = cc
 no_count false e = λ _. false
 
-few_from : (schema : List Table) (n : ℕ) (changes : List Change) → misfit_from schema n changes ≡ None → n ≤ 65536 → n + length changes ≤ 65536
+below_most : (limits : Limits) (n : ℕ) → nat_le (most_changes limits) n ≡ false → n < 4294967294
+below_most Narrow n e = grind (arith, nat_tests, e)
+below_most Wide n e = grind (arith, nat_tests, e)
+
+few_at : (table : Option Table) (change : Change) (n : ℕ) → misfit_in table change ≡ None → count_misfit table n ≡ None → n < 4294967294
+few_at None change n fit e = cc
+few_at (Some table) change n fit e = below_most table.limits n (no_count (nat_le (most_changes table.limits) n) e)
+
+few_from : (schema : List Table) (n : ℕ) (changes : List Change) → misfit_from schema n changes ≡ None → n ≤ 4294967294 → n + length changes ≤ 4294967294
 few_from schema n [] e h = omega arith
 few_from schema n (change ∷ changes) e h =
+    let table = find_table (table_of change) schema in
     let parts = none_later (change_misfit schema n change) n (misfit_from schema (n + 1) changes) e in
-    let causes = no_cause (misfit_in (find_table (table_of change) schema) change) (count_misfit n) parts.0 in
-    let test : nat_le 65536 n ≡ false = no_count (nat_le 65536 n) causes.1 in
-    let below : n < 65536 = grind (arith, nat_tests, test) in
+    let causes = no_cause (misfit_in table change) (count_misfit table n) parts.0 in
+    let below = few_at table change n causes.0 causes.1 in
     omega (arith, few_from schema (n + 1) changes parts.1 (omega (arith, below)))
 
--- a transaction that fits has at most 65536 changes
-pub few_changes : (schema : List Table) (txn : Transaction) → misfit schema txn ≡ None → length txn.changes ≤ 65536
+-- a transaction that fits has no more changes than the widest limits say
+pub few_changes : (schema : List Table) (txn : Transaction) → misfit schema txn ≡ None → length txn.changes ≤ 4294967294
 few_changes schema txn e = omega (arith, few_from schema 0 txn.changes e (omega arith))
 
 -- ---- what a transaction that fits leaves
@@ -105,7 +116,7 @@ left_fits schema n (change ∷ changes) k row fit e =
     let parts = none_later (change_misfit schema n change) n (misfit_from schema (n + 1) changes) fit in
     elim (which (left_by_changes schema changes k) (left_by_change schema change k) row e) [
       | inl later ↦ left_fits schema (n + 1) changes k row parts.1 later
-      | inr here ↦ left_one schema change k row (no_cause (misfit_in (find_table (table_of change) schema) change) (count_misfit n) parts.0).0 here
+      | inr here ↦ left_one schema change k row (no_cause (misfit_in (find_table (table_of change) schema) change) (count_misfit (find_table (table_of change) schema) n) parts.0).0 here
     ]
 
 stands : (left : Option (Option (List Value))) (before : Option (List Value)) (row : List Value) → unwrap_or left before ≡ Some row → (left ≡ Some (Some row)) ⊎ (before ≡ Some row)
@@ -136,7 +147,7 @@ no_two_carry schema rows h p q k a b there_a there_b by_a by_b =
 misfit_along : (a b : List Table) (n : ℕ) (changes : List Change) → SameTables a b changes → misfit_from a n changes ≡ misfit_from b n changes
 misfit_along a b n [] same = λ _. None
 misfit_along a b n (change ∷ changes) same =
-    ap (λ o. or_later (first_cause (misfit_in o change) (count_misfit n)) n (misfit_from a (n + 1) changes)) same.0
+    ap (λ o. or_later (first_cause (misfit_in o change) (count_misfit o n)) n (misfit_from a (n + 1) changes)) same.0
     ∙ ap (or_later (change_misfit b n change) n) (misfit_along a b (n + 1) changes same.1)
 
 pub fits_along : (a b : List Table) (txn : Transaction) → SameTables a b txn.changes → Fits a txn → Fits b txn

@@ -8,6 +8,9 @@ use Rattle.std.specs.declared.cmp.Ordering.TheVariants.{Equal}
 use Rattle.std.specs.Cmp.{eq_by_cmp_equiv}
 use Rattle.std.specs.Cmp.Lexicographic.{slice_cmp, nat_list_cmp_total}
 use Rattle.rows.specs.Keys.{find_table}
+use Rattle.rows.specs.Limits.{most_tables, most_columns, most_uniques}
+use Rattle.rows.specs.declared.limits.Limits.{Limits}
+use Rattle.rows.specs.declared.limits.Limits.TheVariants.{Narrow, Wide}
 use Rattle.rows.specs.Tables.{is_table, has_column_lists, is_within_limits, has_its_columns, is_taken, table_fault, are_named_once, AreTables}
 use Rattle.rows.specs.declared.schema.TableFault.TheVariants.{Body, Limit, Schema}
 use Rattle.rows.specs.declared.schema.Table.{Table}
@@ -18,18 +21,26 @@ use Rattle.std.specs.Option.{option_copied}
 use Rattle.std.specs.Prelude.{IfSome}
 use Rattle.row_images.proofs.Equal.{names-Decide}
 
--- each table has at most eight unique keys
+-- each table has at most 64 unique keys
 abbrev pub HaveFewUniques : List Table → Type 0
 HaveFewUniques [] = Unit {0}
-HaveFewUniques (table ∷ tables) = (length table.uniques ≤ 8) × HaveFewUniques tables
+HaveFewUniques (table ∷ tables) = (length table.uniques ≤ 64) × HaveFewUniques tables
+
+few_of : (limits : Limits) (n : ℕ) → nat_le n (most_uniques limits) ≡ true → n ≤ 64
+few_of Narrow n e = grind (arith, nat_tests, e)
+few_of Wide n e = grind (arith, nat_tests, e)
+
+few_tables : (limits : Limits) (n : ℕ) → nat_lt n (most_tables limits) ≡ true → n < 65536
+few_tables Narrow n e = grind (arith, nat_tests, e)
+few_tables Wide n e = grind (arith, nat_tests, e)
 
 pub few_uniques : (tables : List Table) → list_all is_table tables ≡ true → HaveFewUniques tables
 few_uniques [] e = tt
 few_uniques (table ∷ tables) e =
     let here = and_parts (is_table table) (list_all is_table tables) e in
     let limits = and_parts (has_column_lists table) (is_within_limits table) (and_parts (has_column_lists table && is_within_limits table) (has_its_columns table) here.0).0 in
-    let count = and_parts (nat_le 1 table.columns && nat_le table.columns 64) (nat_le (length table.uniques) 8) limits.1 in
-    (grind (arith, nat_tests, count.1), few_uniques tables here.1)
+    let count = and_parts (nat_lt table.hidden table.columns && nat_le table.columns (most_columns table.limits)) (nat_le (length table.uniques) (most_uniques table.limits)) limits.1 in
+    (few_of table.limits (length table.uniques) count.1, few_uniques tables here.1)
 
 -- ---- one more table
 
@@ -66,14 +77,14 @@ are_named_once-push (x ∷ tables) table e f =
 -- a table that is not refused may come after the others
 pub table_added : (tables : List Table) (table : Table) → AreTables tables → table_fault tables table ≡ None → AreTables (tables ++ table ∷ [])
 table_added tables table h e =
-    let n = no_fault (not (has_column_lists table)) (not (is_within_limits table && nat_lt (length tables) 256)) (is_taken table.name tables || not (has_its_columns table)) e in
-    let limits = and_parts (is_within_limits table) (nat_lt (length tables) 256) (not-false (is_within_limits table && nat_lt (length tables) 256) n.1) in
+    let n = no_fault (not (has_column_lists table)) (not (is_within_limits table && nat_lt (length tables) (most_tables table.limits))) (is_taken table.name tables || not (has_its_columns table)) e in
+    let limits = and_parts (is_within_limits table) (nat_lt (length tables) (most_tables table.limits)) (not-false (is_within_limits table && nat_lt (length tables) (most_tables table.limits)) n.1) in
     let names = or_parts (is_taken table.name tables) (not (has_its_columns table)) n.2 in
     let sound : is_table table ≡ true =
     and_from (has_column_lists table && is_within_limits table) (has_its_columns table)
     (and_from (has_column_lists table) (is_within_limits table) (not-false (has_column_lists table) n.0) limits.0)
     (not-false (has_its_columns table) names.1) in
-    let below : length tables < 256 = grind (arith, nat_tests, limits.1) in
+    let below = few_tables table.limits (length tables) limits.1 in
     record {
       count = omega (arith, length-append tables (table ∷ []), below);
       each = list_all-append is_table tables (table ∷ []) ∙ and_from (list_all is_table tables) (list_all is_table (table ∷ [])) h.each (and_from (is_table table) true sound (λ _. true));
@@ -96,16 +107,16 @@ named_at name (x ∷ tables) (suc place) d once lt same =
     absurd cc) in
     rw apart later
 
--- what is found has at most eight unique keys
-pub few_found : (name : List ℕ) (tables : List Table) (table : Table) → HaveFewUniques tables → find_table name tables ≡ Some table → length table.uniques ≤ 8
+-- what is found has at most 64 unique keys
+pub few_found : (name : List ℕ) (tables : List Table) (table : Table) → HaveFewUniques tables → find_table name tables ≡ Some table → length table.uniques ≤ 64
 few_found name [] table few e = absurd cc
 few_found name (x ∷ tables) table few e =
-    elim (eq_by_cmp (slice_cmp nat_cmp) name x.name) as (λ b. cond b (Some x) (find_table name tables) ≡ Some table → length table.uniques ≤ 8) [
-      | true ↦ λ f. subst (λ (t : Table). length t.uniques ≤ 8) (same_Some x table f) few.0
+    elim (eq_by_cmp (slice_cmp nat_cmp) name x.name) as (λ b. cond b (Some x) (find_table name tables) ≡ Some table → length table.uniques ≤ 64) [
+      | true ↦ λ f. subst (λ (t : Table). length t.uniques ≤ 64) (same_Some x table f) few.0
       | false ↦ λ f. few_found name tables table few.1 f
     ] e
 
-pub few_shown : (name : List ℕ) (tables : List Table) (r : Option (Bor Table)) → HaveFewUniques tables → option_copied r ≡ find_table name tables → IfSome r (λ (t : Bor Table). length t.now.uniques ≤ 8)
+pub few_shown : (name : List ℕ) (tables : List Table) (r : Option (Bor Table)) → HaveFewUniques tables → option_copied r ≡ find_table name tables → IfSome r (λ (t : Bor Table). length t.now.uniques ≤ 64)
 few_shown name tables None few e = tt
 few_shown name tables (Some t) few e = few_found name tables t.now few (sym e)
 

@@ -1,10 +1,12 @@
 -- A schema, and the rows of its tables.
-use Rattle.std.specs.Prelude.{◌≡◌, ℕ, true, List, [], ◌∷◌, Some, unwrap_or, refl}
+use Rattle.std.specs.Prelude.{◌≡◌, ℕ, Bool, true, false, List, [], ◌∷◌, Some, unwrap_or, refl}
 use Rattle.std.specs.FinMap.{get}
-use Rattle.std.specs.Coded.{Coded, code_by, coded×, coded_ℕ, coded_list}
+use Rattle.std.specs.Coded.{Coded, code_by, coded×, coded_ℕ, coded_bool, coded_list}
 use Rattle.rows.specs.declared.change.Change.TheVariants.{Insert}
 use Rattle.rows.specs.declared.change.Key.{Key}
 use Rattle.rows.specs.declared.change.Transaction.{Transaction}
+use Rattle.rows.specs.declared.limits.Limits.{Limits}
+use Rattle.rows.specs.declared.limits.Limits.TheVariants.{Narrow, Wide}
 use Rattle.rows.specs.declared.schema.Table.{Table}
 use Rattle.row_images.specs.declared.value.Value.{Value}
 use Rattle.rows.specs.Apply.{Rows}
@@ -36,11 +38,27 @@ NoTwoCarry schema rows =
 abbrev pub LeavesImages : List Table → Transaction → Rows → Rows → Type 0
 LeavesImages schema txn old new = (k : Key) → get new k ≡ unwrap_or (left_by schema txn k) (get old k)
 
+abbrev is_wide : Limits → Bool
+is_wide Narrow = false
+is_wide Wide = true
+
+abbrev limits_by : Bool → Limits
+limits_by false = Narrow
+limits_by true = Wide
+
+pub limits_back : (limits : Limits) → limits_by (is_wide limits) ≡ limits
+limits_back Narrow = λ _. Narrow
+limits_back Wide = λ _. Wide
+
+abbrev limits_code : Coded Limits
+limits_code = code_by Bool coded_bool is_wide limits_by limits_back
+
 abbrev pub table_code : Coded Table
 table_code =
-    code_by (List ℕ × (ℕ × (List ℕ × List (List ℕ)))) (coded× (coded_list coded_ℕ) (coded× coded_ℕ (coded× (coded_list coded_ℕ) (coded_list (coded_list coded_ℕ)))))
-    (λ t. (t.name, (t.columns, (t.primary, t.uniques))))
-    (λ p. record { name = p.0; columns = p.1.0; primary = p.1.1.0; uniques = p.1.1.1 })
+    code_by (List ℕ × (ℕ × (List ℕ × (List (List ℕ) × (ℕ × Limits)))))
+    (coded× (coded_list coded_ℕ) (coded× coded_ℕ (coded× (coded_list coded_ℕ) (coded× (coded_list (coded_list coded_ℕ)) (coded× coded_ℕ limits_code)))))
+    (λ t. (t.name, (t.columns, (t.primary, (t.uniques, (t.hidden, t.limits))))))
+    (λ p. record { name = p.0; columns = p.1.0; primary = p.1.1.0; uniques = p.1.1.1.0; hidden = p.1.1.1.1.0; limits = p.1.1.1.1.1 })
     (λ _. refl)
 
 abbrev pub database_code : Coded Database

@@ -7,6 +7,7 @@ use Rattle.rows.specs.declared.change.Change.{Change}
 use Rattle.rows.specs.declared.change.Transaction.{Transaction}
 use Rattle.rows.specs.declared.patch.Seen.{Seen}
 use Rattle.rows.specs.declared.patch.Touch.{Touch}
+use Rattle.rows.specs.contracts.limits.LimitsPartialEq.TheImpl as it
 use Rattle.rows.specs.declared.schema.Table.{Table}
 use Rattle.rows.specs.Apply.{Rows, apply}
 use Rattle.rows.specs.Database.{Database}
@@ -43,7 +44,7 @@ pub record IsPrepared (schema : List Table) (txn : Transaction) (touches : List 
 -- ---- the test of tables
 
 abbrev pub table_eq : Table → Table → Bool
-table_eq a b = eq_by_cmp (slice_cmp nat_cmp) a.name b.name && (a.columns == b.columns && (pointwise nat_eq a.primary b.primary && pointwise (pointwise nat_eq) a.uniques b.uniques))
+table_eq a b = eq_by_cmp (slice_cmp nat_cmp) a.name b.name && (a.columns == b.columns && (pointwise nat_eq a.primary b.primary && (pointwise (pointwise nat_eq) a.uniques b.uniques && (a.hidden == b.hidden && it.eq-value.it a.limits b.limits))))
 
 abbrev pub same_table : Option Table → Option Table → Bool
 same_table None None = true

@@ -7,6 +7,7 @@ use Rattle.row_images.specs.declared.value.Value.TheVariants.{Int}
 use Rattle.rows.specs.declared.change.Key.{Key}
 use Rattle.rows.specs.declared.change.Change.TheVariants.{Insert, Delete, Update}
 use Rattle.rows.specs.declared.change.Transaction.{Transaction}
+use Rattle.rows.specs.declared.limits.Limits.TheVariants.{Narrow}
 use Rattle.rows.specs.declared.schema.Table.{Table}
 use Rattle.rows.specs.Apply.{Rows}
 use Rattle.rows.specs.Carriers.{AreCarriers}
@@ -15,7 +16,7 @@ use Rattle.rows.specs.Counting.{apply_each}
 
 -- a table of two columns, the first of them its primary key
 abbrev pub accounts : Table
-accounts = record { name = 97 ∷ []; columns = 2; primary = 0 ∷ []; uniques = [] }
+accounts = record { name = 97 ∷ []; columns = 2; primary = 0 ∷ []; uniques = []; hidden = 0; limits = Narrow }
 
 abbrev pub account : ℕ → ℕ → List Value
 account id balance = Int (pos id) ∷ Int (pos balance) ∷ []
@@ -57,7 +58,7 @@ CarriersAreNeeded = ¬ ((schema : List Table) (ts us : List Transaction) (rows a
 
 -- the same table, whose balances are unique
 abbrev pub unique_accounts : Table
-unique_accounts = record { name = 97 ∷ []; columns = 2; primary = 0 ∷ []; uniques = (1 ∷ []) ∷ [] }
+unique_accounts = record { name = 97 ∷ []; columns = 2; primary = 0 ∷ []; uniques = (1 ∷ []) ∷ []; hidden = 0; limits = Narrow }
 
 abbrev pub opens : List Value → Transaction
 opens row = record { changes = Insert unique_accounts.name row ∷ [] }

@@ -5,6 +5,7 @@ use Rattle.rows.specs.declared.schema.Table.{Table}
 use Rattle.rows.specs.declared.schema.TableFault.{TableFault}
 use Rattle.rows.specs.declared.schema.TableFault.TheVariants.{Body, Limit, Schema}
 use Rattle.rows.specs.Keys.{find_table}
+use Rattle.rows.specs.Limits.{most_tables, most_columns, most_uniques}
 
 -- no column occurs twice
 abbrev pub are_distinct : List ℕ → Bool
@@ -18,9 +19,10 @@ is_column_list columns = nat_le 1 (length columns) && are_distinct columns
 abbrev pub has_column_lists : Table → Bool
 has_column_lists table = is_column_list table.primary && list_all is_column_list table.uniques
 
--- 1 to 64 columns, and at most 8 unique keys
+-- a column that isn't hidden, and no more columns and unique keys than its limits say
 abbrev pub is_within_limits : Table → Bool
-is_within_limits table = nat_le 1 table.columns && nat_le table.columns 64 && nat_le (length table.uniques) 8
+is_within_limits table =
+    nat_lt table.hidden table.columns && nat_le table.columns (most_columns table.limits) && nat_le (length table.uniques) (most_uniques table.limits)
 
 -- each column of a list is one of this many
 abbrev pub are_below : ℕ → List ℕ → Bool
@@ -39,7 +41,7 @@ is_taken name tables = is_some (find_table name tables)
 abbrev pub table_fault : List Table → Table → Option TableFault
 table_fault tables table =
     if not (has_column_lists table) then Some Body
-    else if not (is_within_limits table && nat_lt (length tables) 256) then Some Limit
+    else if not (is_within_limits table && nat_lt (length tables) (most_tables table.limits)) then Some Limit
     else if is_taken table.name tables || not (has_its_columns table) then Some Schema
     else None
 
@@ -50,6 +52,6 @@ are_named_once (table ∷ tables) = not (is_taken table.name tables) && are_name
 
 -- the invariant of the tables of a schema
 pub record AreTables (tables : List Table) : Type 0 where
-  pub count : length tables ≤ 256
+  pub count : length tables ≤ 65536
   pub each : list_all is_table tables ≡ true
   pub once : are_named_once tables ≡ true

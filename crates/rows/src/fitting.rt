@@ -3,7 +3,7 @@
 ghost use Rattle.std.specs.Prelude.{◌≡◌, ◌≤◌, length, OnOk, IfErr, None, Some, slice_index_or};
 ghost use Rattle.std.specs.List.{list_any};
 ghost use Rattle.row_images.specs.declared.value.Value.TheVariants.{Null};
-ghost use Rattle.row_images.specs.Values.{is_null, is_too_long};
+ghost use Rattle.row_images.specs.Values.{is_null};
 ghost use Rattle.rows.specs.Keys.{find_table};
 ghost use Rattle.rows.specs.Database.{opening};
 ghost use Rattle.rows.specs.Fits.{has_primary_null, row_misfit, rank, first_cause, images_misfit, table_of, misfit_in, change_misfit, misfit};
@@ -53,11 +53,11 @@ fn insert_misfit(schema: &Schema, table: &Name, row: &Row) -> Option<Misfit>
 fn change_misfit(schema: &Schema, n: usize, change: &Change) -> Option<Misfit>
     ensures { result ≡ change_misfit schema.now n change.now }
 {
-    let cause = match schema.find(change.table()) {
-        Some(table) => images_misfit(table, change),
-        None => Some(Misfit::NoTable),
+    let Some(table) = schema.find(change.table()) else {
+        return Some(Misfit::NoTable);
     };
-    if n < 65_536 {
+    let cause = images_misfit(table, change);
+    if n < table.limits.changes() {
         cause
     } else {
         Some(cause.unwrap_or(Misfit::TooMany))
@@ -110,7 +110,7 @@ fn row_misfit(table: &Table, row: &Row) -> Option<Misfit>
     if has_null_at(table.primary.as_slice(), row) {
         return Some(Misfit::NullInPrimary);
     }
-    if row.has_long_value() {
+    if row.has_longer_value(table.limits.bytes()) {
         return Some(Misfit::TooLong);
     }
     None

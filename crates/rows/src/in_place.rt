@@ -144,7 +144,7 @@ fn put_under_uniques(
     row: &Row,
     free: bool,
 ) -> bool
-    requires { length table.now.uniques ≤ 8 }
+    requires { length table.now.uniques ≤ 64 }
     ensures placed { result ≡ true → IsPlaced free (unique_keys table.now.name 1 table.now.uniques image.now) row.now (rows_in carriers.old.entries) (rows_in carriers.new.entries) }
     ensures back { all_undone log.new.items carriers.new.entries ≡ all_undone log.old.items carriers.old.entries }
     ensures room { length log.old.items ≤ spare carriers.old → length log.new.items ≤ spare carriers.new }
@@ -179,7 +179,7 @@ fn put_under_each(
     first: Expected<'_>,
     free: bool,
 ) -> bool
-    requires few { length table.now.uniques ≤ 8 }
+    requires few { length table.now.uniques ≤ 64 }
     requires first { free ≡ true → first ≡ Nothing }
     ensures placed { result ≡ true → IsPlaced free (keys_of_row table.now image.now) row.now (rows_in carriers.old.entries) (rows_in carriers.new.entries) }
     ensures over { result ≡ true → IsExpected first.entry (map.get (rows_in carriers.old.entries) (primary_key table.now image.now)) }
@@ -223,7 +223,7 @@ fn remove_uniques(
     table: &Table,
     row: &Row,
 ) -> bool
-    requires { length table.now.uniques ≤ 8 }
+    requires { length table.now.uniques ≤ 64 }
     ensures removed { result ≡ true → rows_in carriers.new.entries ≡ without_keys (unique_keys table.now.name 1 table.now.uniques row.now) (rows_in carriers.old.entries) }
     ensures back { all_undone log.new.items carriers.new.entries ≡ all_undone log.old.items carriers.old.entries }
     ensures room { length log.old.items ≤ spare carriers.old → length log.new.items ≤ spare carriers.new }

@@ -312,7 +312,7 @@ impl KeyMap {
         schema: &Schema,
         changes: &[Change],
     ) -> Result<(), PrepareFault>
-        requires { length changes.now ≤ 65536 }
+        requires { length changes.now ≤ 4294967294 }
         ensures ok { OnOk result (apply_from schema.now 0 changes.now self.old ≡ Ok self.new) }
         ensures refused { Refuses result (apply_from schema.now 0 changes.now self.old) }
         ensures err { OnErr result (self.new ≡ self.old) }
@@ -349,7 +349,7 @@ impl KeyMap {
         schema: &Schema,
         changes: &[Change],
     ) -> Result<(), PrepareFault>
-        requires { length changes.now ≤ 65536 }
+        requires { length changes.now ≤ 4294967294 }
         ensures ok { OnOk result (apply_from schema.now 0 changes.now self.old ≡ Ok self.new) }
         ensures refused { Refuses result (apply_from schema.now 0 changes.now self.old) }
         ensures err { OnErr result (self.new ≡ self.old) }

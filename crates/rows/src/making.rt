@@ -396,7 +396,7 @@ impl Making {
         schema: &Schema,
         changes: &[Change],
     ) -> Result<(), PrepareFault>
-        requires { length changes.now ≤ 65536 }
+        requires { length changes.now ≤ 4294967294 }
         ensures ok { OnOk result (apply_from schema.now 0 changes.now self.old.made ≡ Ok self.new.made) }
         ensures refused { Refuses result (apply_from schema.now 0 changes.now self.old.made) }
         ensures before { self.new.before ≡ self.old.before }

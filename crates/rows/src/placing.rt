@@ -108,7 +108,7 @@ fn push_under_each(
     table: &Table,
     row: &Row,
 ) -> bool
-    requires { length table.now.uniques ≤ 8 }
+    requires { length table.now.uniques ≤ 64 }
     ensures put { result ≡ true → IsPut (keys_of_row table.now row.now) row.now (map.from_entries {R = key_cmp} carriers.old.entries) (map.from_entries carriers.new.entries) }
     ensures after { Extends carriers.old.entries carriers.new.entries }
 {

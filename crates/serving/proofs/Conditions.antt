@@ -24,6 +24,7 @@ use Rattle.rows.specs.Database.{Database}
 use Rattle.rows.specs.Fits.{misfit, Fits}
 use Rattle.journal.specs.declared.Entry.{Entry}
 use Rattle.journal.specs.Journals.{JournalValue, whole, IsJournal}
+use Rattle.rows.specs.declared.limits.Limits.TheVariants.{Wide}
 use Rattle.journal.specs.Writing.{is_number, is_txn_writable, is_writable}
 use Rattle.apply_channel.specs.Channels.{ChannelValue, Received, received_gtids, is_full, most_received, same_name, with_asked, with_received, received_as}
 use Rattle.apply_channel.specs.Channels as channels
@@ -278,7 +279,7 @@ can_send schema executed j unpurged rules fits room = record {
   unpurged = unpurged;
   taken = all_from (IsTaken schema) j.entries (λ i e at. record {
     fits = all_at (λ (x : Entry). Fits schema x.txn) j.entries i e fits at;
-    number = (and_parts (is_number e.gtid.number) (is_txn_writable e.txn) (all_true is_writable j.entries i e rules.writable at)).0;
+    number = (and_parts (is_number e.gtid.number) (is_txn_writable Wide e.txn) (all_true (is_writable Wide) j.entries i e rules.writable at)).0;
   });
   room = room;
 }

@@ -17,6 +17,7 @@ use Rattle.txn_journal.specs.Stamps.{no_stamps, right_stamp, right_stamps, all_s
 use Rattle.txn_journal.specs.Words.{IsOneLine}
 use Rattle.txn_journal.specs.Formats.{closing_by}
 use Rattle.rows.specs.Listing.{rows_listed}
+use Rattle.rows.specs.declared.limits.Limits.TheVariants.{Narrow}
 use Rattle.txn_journal.specs.WrittenSets.{IsWrittenSet}
 use Rattle.txn_journal.proofs.ListedRows.{listed_opening}
 use Rattle.txn_journal.specs.Stream.{Progress, Reading, Stopped, Judge}
@@ -115,7 +116,7 @@ module _ (whole : Bool) (due : Option Version) (version : Version) (is_due_versi
   goes_tables b draft before (t ∷ ts) h =
       let s = state parts.Tables before b None draft in
       let u = state parts.Tables (before ++ t ∷ []) b None draft in
-      let one : Goes s (Own (Has (shape_for t)) ∷ []) u = goes_own s u (Has (shape_for t)) (λ x line. refl) refl (shape_fits before t h.0 (allowed before t h.1)) (ap (λ (r : Result (List Table) Cause). r >>= λ x. done (state parts.Tables x b None draft)) (with_again before t h.1)) in
+      let one : Goes s (Own (Has (shape_for t)) ∷ []) u = goes_own s u (Has (shape_for t)) (λ x line. refl) refl (shape_fits before t h.0 (allowed before t h.1)) (ap (λ (r : Result (List Table) Cause). r >>= λ x. done (state parts.Tables x b None draft)) (with_again before t h.0 h.1)) in
       leads_both one (subst (λ (x : List Table). Goes u (table_lines ts) (state parts.Tables x b None draft)) (append_assoc before (t ∷ []) ts) (goes_tables b draft (before ++ t ∷ []) ts h.2))
 
   -- ---- a journal within its channel
@@ -201,7 +202,7 @@ module _ (whole : Bool) (due : Option Version) (version : Version) (is_due_versi
   record Early (s : BundleStanding) (b : BundleValue) : Type 0 where
     late : Late s b
     row : is_due_in s.part words.Row ≡ true
-    puts : (r : TableRow) (rows : Rows) → is_image_writable r.row ≡ true → with_opening b.start r ≡ Ok rows → own_put s (Puts r) ≡ Ok (state parts.Rows [] (with_rows b rows) None s.draft)
+    puts : (r : TableRow) (rows : Rows) → is_image_writable Narrow r.row ≡ true → with_opening b.start r ≡ Ok rows → own_put s (Puts r) ≡ Ok (state parts.Rows [] (with_rows b rows) None s.draft)
 
   after_tables : (replica : ℕ) (opened : Gtids) (ts : List Table) (draft : Standing) → Early (state parts.Tables ts (bare replica opened []) None draft) (bare replica opened ts)
   unfolding own_put join_channel put_row
@@ -221,10 +222,10 @@ module _ (whole : Bool) (due : Option Version) (version : Version) (is_due_versi
     late : Late last b
     goes : Goes s ls last
 
-  brings_rows : (s : BundleStanding) (b : BundleValue) (rs : List TableRow) (new : Rows) → Early s b → AllByRecursion FitsRow rs → list_all (λ r. is_image_writable r.row) rs ≡ true → put_all b.start rs ≡ Ok new → Brings s (row_lines rs) (with_rows b new)
+  brings_rows : (s : BundleStanding) (b : BundleValue) (rs : List TableRow) (new : Rows) → Early s b → AllByRecursion FitsRow rs → list_all (λ r. is_image_writable Narrow r.row) rs ≡ true → put_all b.start rs ≡ Ok new → Brings s (row_lines rs) (with_rows b new)
   brings_rows s b [] new early fit writable e = record { last = s; late = subst (λ (x : Rows). Late s (with_rows b x)) (ok_is b.start.rows new e) early.late; goes = goes_none s }
   brings_rows s b (r ∷ rs) new early fit writable e =
-      let p = and_parts (is_image_writable r.row) (list_all (λ r. is_image_writable r.row) rs) writable in
+      let p = and_parts (is_image_writable Narrow r.row) (list_all (λ r. is_image_writable Narrow r.row) rs) writable in
       let a = bind_ok (with_opening b.start r) (λ rows. put_all (record b.start { rows = rows }) rs) new e in
       let u = state parts.Rows [] (with_rows b a.0) None s.draft in
       let more = brings_rows u (with_rows b a.0) rs new (after_rows (with_rows b a.0) s.draft) fit.1 p.1 a.2 in

@@ -8,12 +8,13 @@ use Rattle.std.proofs.lemmas.Bool.{leb-true, leb-false, le-leb, eqb-true, eq-eqb
 use Rattle.std.proofs.lemmas.List.{append-nil, length-append, length-map, map_push}
 use Rattle.gtid_text.specs.Written.{IsSource}
 use Rattle.gtid_set.proofs.SpanLemmas.{all_push}
-use Rattle.rows.specs.Names.{is_name}
+use Rattle.rows.specs.Names.{is_short_name}
 use Rattle.rows.specs.Apply.{Rows}
 use Rattle.rows.specs.Database.{Database}
 use Rattle.rows.specs.Tables.{table_fault}
 use Rattle.rows.specs.declared.schema.Table.{Table}
 use Rattle.rows.specs.declared.change.TableRow.{TableRow}
+use Rattle.rows.specs.declared.limits.Limits.TheVariants.{Narrow}
 use Rattle.journal.specs.Journals.{JournalValue}
 use Rattle.journal.specs.Writing.{is_image_writable}
 use Rattle.gtid_set.specs.Sets.{Gtids}
@@ -25,7 +26,7 @@ use Rattle.txn_journal.specs.Stamps.{right_stamp, right_stamps, all_stamps}
 use Rattle.txn_journal.specs.Machine.{Standing, empty, is_last, is_within, open_entry, judge}
 use Rattle.txn_journal.specs.LinesSoFar.{lines_so_far}
 use Rattle.txn_journal.specs.Spelling.{Line, Header, Previous, Begin, Makes, End, Close, line_text, journal_lines, IsWritten}
-use Rattle.txn_journal.specs.Shapes.{Shape, with_table, shape_for}
+use Rattle.txn_journal.specs.Shapes.{Shape, FitsTable, with_table, shape_for}
 use Rattle.txn_journal.specs.BundleStates.{BundleValue, BundleStanding, bare, is_due_in, after_tables, with_opening, put_row, has_channel, join_channel, with_journal, close_channel, after_inner, is_misstamped, judge_own, judge_inner, judge_part, judge_bundle}
 use Rattle.txn_journal.specs.BundleText.{entry_fits, OwnLine, BundleLine, Own, Inner, Heads, Names, Starts, Has, Puts, Opens, Done, bundle_line_text, table_lines, row_lines, channel_lines, channels_lines, opening_set_lines, tables_lines, start_lines, bundle_front, IsOpeningSet, FitsRow, AreAdded, put_all, AreNamed, IsWrittenIn, AreBrought, IsWrittenBundle}
 use Rattle.txn_journal.specs.BundleLinesSoFar.{inner_lines_so_far, bundle_lines_so_far}
@@ -60,7 +61,7 @@ pub record NoChannel (b : BundleValue) : Type 0 where
 
 -- a channel is open
 pub record IsOpen (version : Version) (b : BundleValue) (c : BundleChannel) (draft : Standing) : Type 0 where
-  pub name : is_name c.name ≡ true
+  pub name : is_short_name c.name ≡ true
   pub new : has_channel b.channels c.name ≡ false
   pub room : length b.channels < 256
   pub same_version : draft.due ≡ Some version
@@ -102,11 +103,11 @@ IsBundleSound rows s = SoundAt s.part s.due s.version s.tables rows s.bundle s.c
 
 -- ---- lists with one more
 
-added_more : (before ts : List Table) (t : Table) → AreAdded before ts → is_name t.name ≡ true → table_fault (before ++ ts) t ≡ None → AreAdded before (ts ++ t ∷ [])
-added_more before [] t h name free = (name, subst (λ (x : List Table). table_fault x t ≡ None) (append-nil before) free, tt)
-added_more before (u ∷ ts) t h name free = (h.0, h.1, added_more (before ++ u ∷ []) ts t h.2 name (subst (λ (x : List Table). table_fault x t ≡ None) (sym (append_assoc before (u ∷ []) ts)) free))
+added_more : (before ts : List Table) (t : Table) → AreAdded before ts → FitsTable t → table_fault (before ++ ts) t ≡ None → AreAdded before (ts ++ t ∷ [])
+added_more before [] t h fits free = (fits, subst (λ (x : List Table). table_fault x t ≡ None) (append-nil before) free, tt)
+added_more before (u ∷ ts) t h fits free = (h.0, h.1, added_more (before ++ u ∷ []) ts t h.2 fits (subst (λ (x : List Table). table_fault x t ≡ None) (sym (append_assoc before (u ∷ []) ts)) free))
 
-named_more : (before cs : List BundleChannel) (c : BundleChannel) → AreNamed before cs → is_name c.name ≡ true → has_channel (before ++ cs) c.name ≡ false → AreNamed before (cs ++ c ∷ [])
+named_more : (before cs : List BundleChannel) (c : BundleChannel) → AreNamed before cs → is_short_name c.name ≡ true → has_channel (before ++ cs) c.name ≡ false → AreNamed before (cs ++ c ∷ [])
 named_more before [] c h name new = (name, subst (λ (x : List BundleChannel). has_channel x c.name ≡ false) (append-nil before) new, tt)
 named_more before (d ∷ cs) c h name new = (h.0, h.1, named_more (before ++ d ∷ []) cs c h.2 name (subst (λ (x : List BundleChannel). has_channel x c.name ≡ false) (sym (append_assoc before (d ∷ []) cs)) new))
 
@@ -171,7 +172,7 @@ abbrev with_put : BundleStanding → Rows → BundleStanding
 with_put s rows = record s { bundle = record s.bundle { start = with_rows s.bundle.start rows } }
 
 -- one row more
-row_keeps_in : (due : Option Version) (version : Version) (tables : List Table) (rows : List TableRow) (b : BundleValue) (r : TableRow) (channel : Option BundleChannel) (draft : Standing) (old : List BundleLine) (new : Rows) → Front due version rows b old → NoChannel b → FitsRow r → is_image_writable r.row ≡ true → with_opening b.start r ≡ Ok new
+row_keeps_in : (due : Option Version) (version : Version) (tables : List Table) (rows : List TableRow) (b : BundleValue) (r : TableRow) (channel : Option BundleChannel) (draft : Standing) (old : List BundleLine) (new : Rows) → Front due version rows b old → NoChannel b → FitsRow r → is_image_writable Narrow r.row ≡ true → with_opening b.start r ≡ Ok new
     → KeepsBundle due old (Own (Puts r)) (with_put (state parts.Rows due version tables b channel draft) new)
 row_keeps_in due version tables rows b r channel draft old new f none fit writable put =
     let c : BundleValue = record b { start = with_rows b.start new } in
@@ -195,7 +196,7 @@ row_keeps_in due version tables rows b r channel draft old new f none fit writab
             replica = w.replica;
             opened = w.opened;
             tables = w.tables;
-            opening = record { fit = all_append FitsRow rows (r ∷ []) o.fit (fit, tt); writable = all_push (λ x. is_image_writable x.row) rows r o.writable writable; put = put_more (record { schema = b.start.schema; rows = map_of.empty }) rows r b.start.rows new o.put put };
+            opening = record { fit = all_append FitsRow rows (r ∷ []) o.fit (fit, tt); writable = all_push (λ x. is_image_writable Narrow x.row) rows r o.writable writable; put = put_more (record { schema = b.start.schema; rows = map_of.empty }) rows r b.start.rows new o.put put };
             named = w.named;
             few = w.few;
             brought = w.brought;
@@ -210,7 +211,7 @@ pub none_right : (version : Version) (tables : List Table) → right_stamps vers
 none_right One tables = refl
 none_right Two tables = refl
 
-open_keeps_in : (due : Option Version) (version : Version) (tables : List Table) (rows : List TableRow) (b : BundleValue) (c : BundleChannel) (old : List BundleLine) → Front due version rows b old → is_name c.name ≡ true → length b.channels < 256 → has_channel b.channels c.name ≡ false
+open_keeps_in : (due : Option Version) (version : Version) (tables : List Table) (rows : List TableRow) (b : BundleValue) (c : BundleChannel) (old : List BundleLine) → Front due version rows b old → is_short_name c.name ≡ true → length b.channels < 256 → has_channel b.channels c.name ≡ false
     → KeepsBundle due old (Own (Opens c)) (state parts.Journal due version tables b (Some c) (empty (Some version)))
 open_keeps_in due version tables rows b c old f name room new = record {
   rows = rows;
@@ -224,16 +225,16 @@ done_keeps_in due version tables rows b old channel draft f = record { rows = ro
 
 -- ---- what a line of its own makes, or why it is not taken
 
-opening_cause : (s : BundleStanding) (line : List ℕ) (r : TableRow) → ParsesAsLine (own_wording s) line (Puts r) → is_image_writable r.row ≡ true → (c : Cause) → (with_opening (after_tables s).bundle.start r ≡ Err c) × IsSchema c → HasCauseBy (own_wording s) line c
+opening_cause : (s : BundleStanding) (line : List ℕ) (r : TableRow) → ParsesAsLine (own_wording s) line (Puts r) → is_image_writable Narrow r.row ≡ true → (c : Cause) → (with_opening (after_tables s).bundle.start r ≡ Err c) × IsSchema c → HasCauseBy (own_wording s) line c
 opening_cause s line r k writable causes.Schema e = (Puts r, k, λ long. (let m = sym long ∙ writable in cc), λ rows h. (let m = sym h ∙ e.0 in cc))
 opening_cause s line r k writable c e = absurd e.1
 
 puts_both : (s : BundleStanding) (line : List ℕ) (r : TableRow) (P : BundleStanding → Type 0) → ParsesAsLine (own_wording s) line (Puts r)
-    → (is_image_writable r.row ≡ true → (rows : Rows) → with_opening (after_tables s).bundle.start r ≡ Ok rows → P (with_put (after_tables s) rows)) → MatchResult (own_put s (Puts r)) P (HasCauseBy (own_wording s) line)
+    → (is_image_writable Narrow r.row ≡ true → (rows : Rows) → with_opening (after_tables s).bundle.start r ≡ Ok rows → P (with_put (after_tables s) rows)) → MatchResult (own_put s (Puts r)) P (HasCauseBy (own_wording s) line)
 unfolding own_put put_row
 puts_both s line r P k more =
     let put = with_opening (after_tables s).bundle.start r in
-    if_both P (HasCauseBy (own_wording s) line) (is_image_writable r.row) _ _
+    if_both P (HasCauseBy (own_wording s) line) (is_image_writable Narrow r.row) _ _
     (λ writable. then_both P (HasCauseBy (own_wording s) line) put _
     (MatchResult-weaker put (known_both put _ _ (put_both (after_tables s).bundle.start r)) (λ rows e. e.0) (opening_cause s line r k writable)) (more writable))
     (λ long. (Puts r, k, long))
@@ -280,7 +281,7 @@ keeps_own parts.Tables due version tables rows b channel draft line (Has shape) 
       rows = [];
       same_due = refl;
       says = ap (λ (ls : List BundleLine). before ++ ls) (map_push (λ x. Own (Has (shape_for x))) tables f.table ∙ ap (λ (x : Shape). table_lines tables ++ Own (Has x) ∷ []) (sym f.shape)) ∙ sym (append_assoc before (table_lines tables) (Own (Has shape) ∷ []));
-      sound = record { due_version = h.due_version; replica = h.replica; opened = h.opened; added = added_more [] tables f.table h.added f.name f.free };
+      sound = record { due_version = h.due_version; replica = h.replica; opened = h.opened; added = added_more [] tables f.table h.added f.fits f.free };
     }))
 keeps_own parts.Tables due version tables rows b channel draft line (Puts r) h is k =
     puts_both (state parts.Tables due version tables b channel draft) line r _ k (λ writable new put. row_keeps_in due version [] [] (bare b.replica b.opened tables) r channel draft (tables_lines version b.replica b.opened tables) new (front_of due version tables b h) (record { channels = refl; journals = refl }) k.fits writable put)

@@ -7,6 +7,7 @@ use Rattle.gtid_set.proofs.FaultLemmas.{fault_map}
 use Rattle.rows.specs.declared.change.Change.{Change}
 use Rattle.rows.specs.declared.change.Change.TheVariants.{Insert, Delete, Update}
 use Rattle.rows.specs.declared.schema.Table.{Table}
+use Rattle.rows.specs.declared.limits.Limits.TheVariants.{Narrow}
 use Rattle.journal.specs.Writing.{is_change_writable}
 use Rattle.row_images.specs.Words.{first_word, others}
 use Rattle.txn_journal.specs.Due.{is_due}
@@ -54,7 +55,7 @@ stays_open s r = MatchResult r (λ d. d.place ≡ s.place) (λ cause. Unit {0})
 added_stays : (schema : Option (List Table)) (s : Standing) (c : Change) → stays_open s (add schema s c)
 unfolding add
 added_stays schema s c =
-    if_both (λ (d : Standing). d.place ≡ s.place) (λ cause. Unit {0}) (nat_le 65536 (length s.changes) || not (is_change_writable c)) _ _ (λ passes. tt)
+    if_both (λ (d : Standing). d.place ≡ s.place) (λ cause. Unit {0}) (nat_le 65536 (length s.changes) || not (is_change_writable Narrow c)) _ _ (λ passes. tt)
     (λ within. if_both (λ (d : Standing). d.place ≡ s.place) (λ cause. Unit {0}) (not (fits schema c)) _ _ (λ misfit. tt) (λ taken. refl))
 
 -- ---- in a bundle

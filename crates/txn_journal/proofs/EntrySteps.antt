@@ -9,6 +9,7 @@ use Rattle.std.proofs.lemmas.Bool.{and_parts}
 use Rattle.gtid_text.specs.declared.Gtid.{Gtid}
 use Rattle.rows.specs.declared.change.Change.{Change}
 use Rattle.rows.specs.declared.schema.Table.{Table}
+use Rattle.rows.specs.declared.limits.Limits.TheVariants.{Narrow}
 use Rattle.journal.specs.Writing.{is_number, is_change_writable}
 use Rattle.journal_words.specs.Gtids.{gtid_of_word}
 use Rattle.txn_journal.specs.Lines.{◌>>=◌}
@@ -61,24 +62,24 @@ bundle_begins s cs word g part spelled h =
 
 -- ---- the changes
 
-adds_one : (tables : List Table) (s : Standing) (c : Change) → nat_le 65536 (length s.changes) ≡ false → is_change_writable c ≡ true → fits (Some tables) c ≡ true → add (Some tables) s c ≡ Ok (record s { changes = s.changes ++ c ∷ [] })
+adds_one : (tables : List Table) (s : Standing) (c : Change) → nat_le 65536 (length s.changes) ≡ false → is_change_writable Narrow c ≡ true → fits (Some tables) c ≡ true → add (Some tables) s c ≡ Ok (record s { changes = s.changes ++ c ∷ [] })
 unfolding add
 adds_one tables s c few writable fit = simp (few, writable, fit) refl
 
 abbrev holding : BundleStanding → List Change → BundleStanding
 holding s cs = with_draft s (record s.draft { changes = s.draft.changes ++ cs })
 
-holds_one : (s : BundleStanding) (c : Change) → nat_le 65536 (length s.draft.changes) ≡ false → is_change_writable c ≡ true → fits (Some s.bundle.start.schema) c ≡ true → with_change s c ≡ done (holding s (c ∷ []))
+holds_one : (s : BundleStanding) (c : Change) → nat_le 65536 (length s.draft.changes) ≡ false → is_change_writable Narrow c ≡ true → fits (Some s.bundle.start.schema) c ≡ true → with_change s c ≡ done (holding s (c ∷ []))
 unfolding with_change
 holds_one s c few writable fit = ap (λ (r : Result Standing Cause). r >>= λ d. done (with_draft s d)) (adds_one s.bundle.start.schema s.draft c few writable fit)
 
-holds_all : (s : BundleStanding) (ls : List (List ℕ)) (cs : List Change) → s.part ≡ parts.Journal → is_within s.draft.place ≡ true → AreChangeLines ls cs → nat_le (length s.draft.changes + length cs) 65536 ≡ true → list_all is_change_writable cs ≡ true → list_all (fits (Some s.bundle.start.schema)) cs ≡ true
+holds_all : (s : BundleStanding) (ls : List (List ℕ)) (cs : List Change) → s.part ≡ parts.Journal → is_within s.draft.place ≡ true → AreChangeLines ls cs → nat_le (length s.draft.changes + length cs) 65536 ≡ true → list_all (is_change_writable Narrow) cs ≡ true → list_all (fits (Some s.bundle.start.schema)) cs ≡ true
     → judge_all judge_bundle s ls ≡ done (holding s cs)
 holds_all s [] [] part within h few writable fit = ap (λ (x : List Change). done (with_draft s (record s.draft { changes = x }))) (sym (append-nil s.draft.changes))
 holds_all s [] (c ∷ cs) part within h few writable fit = absurd h
 holds_all s (l ∷ ls) [] part within h few writable fit = absurd h
 holds_all s (l ∷ ls) (c ∷ cs) part within h few writable fit =
-    let w = and_parts (is_change_writable c) (list_all is_change_writable cs) writable in
+    let w = and_parts (is_change_writable Narrow c) (list_all (is_change_writable Narrow) cs) writable in
     let f = and_parts (fits (Some s.bundle.start.schema) c) (list_all (fits (Some s.bundle.start.schema)) cs) fit in
     let one = bundle_adds s l c h.1 part within ∙ holds_one s c (room_now (length s.draft.changes) (length cs) few) w.0 f.0 in
     ap (λ (r : Result BundleStanding Cause). r >>= λ t. judge_all judge_bundle t ls) one
@@ -108,7 +109,7 @@ entry_made s text g cs part one h may =
     let first = codes "txn " ++ h.word in
     let last = codes "end" in
     let opened = with_draft s (begun s.draft g) in
-    let w = and_parts (nat_le (length cs) 65536) (list_all is_change_writable cs) h.writable in
+    let w = and_parts (nat_le (length cs) 65536) (list_all (is_change_writable Narrow) cs) h.writable in
     let few : nat_le (length s.draft.changes + length cs) 65536 ≡ true = ap (λ (xs : List Change). nat_le (length xs + length cs) 65536) may.nothing_open ∙ ap (λ (k : ℕ). nat_le k 65536) (none_before (length cs)) ∙ w.0 in
     let held = holds_all opened h.within cs part refl h.lines few w.1 may.fit in
     let closed : judge_bundle (holding opened cs) last ≡ done (with_draft s (with_entry s.draft g cs)) =

@@ -7,6 +7,7 @@ use Rattle.std.proofs.lemmas.Bool.{and_parts, le-leb}
 use Rattle.gtid_set.proofs.SpanLemmas.{all_push}
 use Rattle.gtid_text.specs.declared.Gtid.{Gtid}
 use Rattle.rows.specs.declared.change.Change.{Change}
+use Rattle.rows.specs.declared.limits.Limits.TheVariants.{Narrow}
 use Rattle.txn_journal.specs.Words.{IsOneLine}
 use Rattle.txn_journal.specs.ChangeLines.{change_in}
 use Rattle.journal.specs.Writing.{is_change_writable}
@@ -39,11 +40,11 @@ one_change_more [] (d ∷ ds) l c h one e = absurd h
 one_change_more (x ∷ xs) [] l c h one e = absurd h
 one_change_more (x ∷ xs) (d ∷ ds) l c h one e = (h.0, h.1, one_change_more xs ds l c h.2 one e)
 
-pub writable_more : (cs : List Change) (c : Change) → AreWritable cs → length cs < 65536 → is_change_writable c ≡ true → AreWritable (cs ++ c ∷ [])
+pub writable_more : (cs : List Change) (c : Change) → AreWritable cs → length cs < 65536 → is_change_writable Narrow c ≡ true → AreWritable (cs ++ c ∷ [])
 writable_more cs c h few writes =
-    let p = and_parts (nat_le (length cs) 65536) (list_all is_change_writable cs) h in
+    let p = and_parts (nat_le (length cs) 65536) (list_all (is_change_writable Narrow) cs) h in
     let le = le-leb (length (cs ++ c ∷ [])) 65536 (omega (arith, few, length_push cs c)) in
-    (λ i. le i && all_push is_change_writable cs c p.1 writes i)
+    (λ i. le i && all_push (is_change_writable Narrow) cs c p.1 writes i)
 
 pub as_many : (ls : List (List ℕ)) (cs : List Change) → AreChangeLines ls cs → length ls ≡ length cs
 as_many [] [] h = refl

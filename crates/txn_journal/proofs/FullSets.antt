@@ -11,6 +11,7 @@ use Rattle.journal_words.specs.Gtids.{set_of_word, OfParsed, IsWordFault}
 use Rattle.rows.specs.declared.change.Change.{Change}
 use Rattle.rows.specs.declared.change.Change.TheVariants.{Insert, Delete, Update}
 use Rattle.rows.specs.declared.schema.Table.{Table}
+use Rattle.rows.specs.declared.limits.Limits.TheVariants.{Narrow}
 use Rattle.gtid_text.specs.declared.Gtid.{Gtid}
 use Rattle.journal.specs.Writing.{is_number, is_change_writable}
 use Rattle.txn_journal.specs.Due.{is_due}
@@ -57,7 +58,7 @@ never_added : (f : SetFault) (schema : Option (List Table)) (s : Standing) (c : 
 unfolding add
 never_added f schema s c within h =
     let added : Result Standing Cause = Ok (record s { changes = s.changes ++ c ∷ [] }) in
-    let second = full_past (IsFull f) (leb 65536 (length s.changes) || not (is_change_writable c)) _ (cond (not (fits schema c)) (Err _) added) h in
+    let second = full_past (IsFull f) (leb 65536 (length s.changes) || not (is_change_writable Narrow c)) _ (cond (not (fits schema c)) (Err _) added) h in
     let third = full_past (IsFull f) (not (fits schema c)) _ added second in
     absurd (let k = sym within ∙ third.0 in cc)
 

@@ -13,6 +13,7 @@ use Rattle.row_images.specs.declared.value.Value.{Value}
 use Rattle.rows.specs.declared.change.Change.{Change}
 use Rattle.rows.specs.declared.change.Change.TheVariants.{Insert, Delete, Update}
 use Rattle.rows.specs.declared.schema.Table.{Table}
+use Rattle.rows.specs.declared.limits.Limits.TheVariants.{Narrow}
 use Rattle.journal.specs.declared.Entry.{Entry}
 use Rattle.journal.specs.Journals.{JournalValue, AreNew}
 use Rattle.journal.proofs.EntryLemmas.{no_numbers}
@@ -79,19 +80,19 @@ line_one Close fits = refl
 
 -- ---- the changes of an entry
 
-image_some : (image : List Value) → is_image_writable image ≡ true → 0 < length image
+image_some : (image : List Value) → is_image_writable Narrow image ≡ true → 0 < length image
 image_some [] e = absurd cc
 image_some (v ∷ vs) e = omega arith
 
-change_images : (c : Change) → is_change_writable c ≡ true → HasImages (Makes c)
+change_images : (c : Change) → is_change_writable Narrow c ≡ true → HasImages (Makes c)
 change_images (Insert table after) e = image_some after e
 change_images (Delete table before) e = image_some before e
-change_images (Update table before after) e = let p = and_parts (is_image_writable before) (is_image_writable after) e in (image_some before p.0, image_some after p.1)
+change_images (Update table before after) e = let p = and_parts (is_image_writable Narrow before) (is_image_writable Narrow after) e in (image_some before p.0, image_some after p.1)
 
 due_change : (c : Change) → is_due places.Within (word_for (Makes c)) ≡ true
 due_change c = grind arith
 
-add_again : (schema : Option (List Table)) (s : Standing) (c : Change) → length s.changes < 65536 → is_change_writable c ≡ true → fits schema c ≡ true → add schema s c ≡ Ok (record s { changes = s.changes ++ c ∷ [] })
+add_again : (schema : Option (List Table)) (s : Standing) (c : Change) → length s.changes < 65536 → is_change_writable Narrow c ≡ true → fits schema c ≡ true → add schema s c ≡ Ok (record s { changes = s.changes ++ c ∷ [] })
 unfolding add
 add_again schema s c lt e fit = rw (lt-leb 65536 (length s.changes) lt, e, fit) refl
 
@@ -120,12 +121,12 @@ number_in n e = let p = and_parts (leb 1 n) (leb n 9223372036854775807) e in (le
 record Parts (e : Entry) : Type 0 where
   number : is_number e.gtid.number ≡ true
   few : length e.txn.changes ≤ 65536
-  all : list_all is_change_writable e.txn.changes ≡ true
+  all : list_all (is_change_writable Narrow) e.txn.changes ≡ true
 
-parts_of : (e : Entry) → is_writable e ≡ true → Parts e
+parts_of : (e : Entry) → is_writable Narrow e ≡ true → Parts e
 parts_of e w =
-    let p = and_parts (is_number e.gtid.number) (is_txn_writable e.txn) w in
-    let q = and_parts (leb (length e.txn.changes) 65536) (list_all is_change_writable e.txn.changes) p.1 in
+    let p = and_parts (is_number e.gtid.number) (is_txn_writable Narrow e.txn) w in
+    let q = and_parts (leb (length e.txn.changes) 65536) (list_all (is_change_writable Narrow) e.txn.changes) p.1 in
     record { number = p.0; few = leb-true _ _ q.0; all = q.1 }
 
 abbrev with_entry : JournalValue → Entry → JournalValue
@@ -161,21 +162,21 @@ module _ (schema : Option (List Table)) (due : Option Version) (version : Versio
   goes_line : (s t : Standing) (l : Line) → is_due s.place (word_for l) ≡ true → FitsAt s.due s.version l → put schema s l ≡ Ok t → is_last t.place ≡ false → (s.place ≡ places.Within → is_within t.place ≡ false → Right s.journal.entries s.stamp (open_entry s)) → Goes s (l ∷ []) t
   goes_line s t l is fit step more right = leads_one K line_text (into s) (into t) l (line_one l fit.words) (carries s t (line_text l) (spelled_judged schema s t l is fit step) more right)
 
-  goes_changes : (j : JournalValue) (stamps : List ℕ) (seen : Gtids) (count : ℕ) (g : Gtid) (stamp : ℕ) (cs ds : List Change) → AllByRecursion FitsChange ds → list_all is_change_writable ds ≡ true → list_all (fits schema) ds ≡ true → length cs + length ds ≤ 65536
+  goes_changes : (j : JournalValue) (stamps : List ℕ) (seen : Gtids) (count : ℕ) (g : Gtid) (stamp : ℕ) (cs ds : List Change) → AllByRecursion FitsChange ds → list_all (is_change_writable Narrow) ds ≡ true → list_all (fits schema) ds ≡ true → length cs + length ds ≤ 65536
       → Goes (at places.Within due version j stamps seen count g stamp cs) (map Makes ds) (at places.Within due version j stamps seen count g stamp (cs ++ ds))
   unfolding put
   goes_changes j stamps seen count g stamp cs [] fit all taken few =
       let s = at places.Within due version j stamps seen count g stamp cs in
       subst (λ (x : List Change). Goes s [] (at places.Within due version j stamps seen count g stamp x)) (sym (append-nil cs)) (leads_none K line_text (into s))
   goes_changes j stamps seen count g stamp cs (d ∷ ds) fit all taken few =
-      let p = and_parts (is_change_writable d) (list_all is_change_writable ds) all in
+      let p = and_parts (is_change_writable Narrow d) (list_all (is_change_writable Narrow) ds) all in
       let q = and_parts (fits schema d) (list_all (fits schema) ds) taken in
       let s = at places.Within due version j stamps seen count g stamp cs in
       let t = at places.Within due version j stamps seen count g stamp (cs ++ d ∷ []) in
       let one : Goes s (Makes d ∷ []) t = goes_line s t (Makes d) (due_change d) (record { words = fit.0; images = change_images d p.0; of_version = tt }) (add_again schema s d (omega arith) p.0 q.0) refl (λ within out. absurd cc) in
       leads_both one (subst (λ (x : List Change). Goes t (map Makes ds) (at places.Within due version j stamps seen count g stamp x)) (append_assoc cs (d ∷ []) ds) (goes_changes j stamps seen count g stamp (cs ++ d ∷ []) ds fit.1 p.1 q.1 (omega (arith, length-append cs (d ∷ [])))))
 
-  goes_entry : (j : JournalValue) (stamps : List ℕ) (seen : Gtids) (count : ℕ) (g : Gtid) (old stamp : ℕ) (e : Entry) → FitsEntry e → is_writable e ≡ true → fits_in schema e ≡ true → count < 4294967294 → set.contains seen e.gtid ≡ false → IsStamp version (count + 1) stamp → Right j.entries stamp e
+  goes_entry : (j : JournalValue) (stamps : List ℕ) (seen : Gtids) (count : ℕ) (g : Gtid) (old stamp : ℕ) (e : Entry) → FitsEntry e → is_writable Narrow e ≡ true → fits_in schema e ≡ true → count < 4294967294 → set.contains seen e.gtid ≡ false → IsStamp version (count + 1) stamp → Right j.entries stamp e
       → Goes (at places.Between due version j stamps seen count g old []) (entry_lines (numbers_of version (count + 1) stamp) e) (at places.Between due version (with_entry j e) (stamps ++ stamp ∷ []) (set.insert seen e.gtid) (count + 1) e.gtid stamp [])
   unfolding put
   goes_entry j stamps seen count g old stamp e fit w taken few apart is right =
@@ -196,14 +197,14 @@ module _ (schema : Option (List Table)) (due : Option Version) (version : Versio
     stamp : ℕ
     goes : Goes (at places.Between due version j stamps seen count g old []) (entries_lines version (count + 1) ls es) (at places.Between due version (with_entries j es) (stamps ++ ls) (seen_after seen es) (count + length es) last stamp [])
 
-  goes_entries : (j : JournalValue) (stamps : List ℕ) (seen : Gtids) (count : ℕ) (g : Gtid) (old : ℕ) (ls : List ℕ) (es : List Entry) → AllByRecursion FitsEntry es → list_all is_writable es ≡ true → list_all (fits_in schema) es ≡ true → AreNew seen es → count + length es ≤ 4294967294 → AreStamps version (count + 1) ls es → AreRight Right j.entries ls es
+  goes_entries : (j : JournalValue) (stamps : List ℕ) (seen : Gtids) (count : ℕ) (g : Gtid) (old : ℕ) (ls : List ℕ) (es : List Entry) → AllByRecursion FitsEntry es → list_all (is_writable Narrow) es ≡ true → list_all (fits_in schema) es ≡ true → AreNew seen es → count + length es ≤ 4294967294 → AreStamps version (count + 1) ls es → AreRight Right j.entries ls es
       → GoesEntries j stamps seen count g old ls es
   goes_entries j stamps seen count g old [] [] fit all taken new few stamped right =
       let s = at places.Between due version j stamps seen count g old [] in
       let none_more : count ≡ count + 0 = omega arith in
       record { last = g; stamp = old; goes = subst (λ (t : Standing). Goes s [] t) (λ i. at places.Between due version (record j { entries = sym (append-nil j.entries) i }) (sym (append-nil stamps) i) seen (none_more i) g old []) (leads_none K line_text (into s)) }
   goes_entries j stamps seen count g old (l ∷ ls) (e ∷ es) fit all taken new few stamped right =
-      let p = and_parts (is_writable e) (list_all is_writable es) all in
+      let p = and_parts (is_writable Narrow e) (list_all (is_writable Narrow) es) all in
       let q = and_parts (fits_in schema e) (list_all (fits_in schema) es) taken in
       let one = goes_entry j stamps seen count g old l e fit.0 p.0 q.0 (omega arith) new.0 stamped.0 right.0 in
       let more = goes_entries (with_entry j e) (stamps ++ l ∷ []) (set.insert seen e.gtid) (count + 1) e.gtid l ls es fit.1 p.1 q.1 new.1 (omega arith) stamped.1 right.1 in
@@ -233,7 +234,7 @@ module _ (schema : Option (List Table)) (due : Option Version) (version : Versio
       let none : Gtid = record { source = 0; number = 0 } in
       let b = at places.Previous due version (record { previous = set.empty; entries = [] }) [] set.empty 0 none 0 [] in
       let c = at places.Between due version k [] j.previous 0 none 0 [] in
-      let entries = goes_entries k [] j.previous 0 none 0 stamps j.entries w.entries w.keeps.writable taken w.keeps.new (omega (arith, w.few)) stamped right in
+      let entries = goes_entries k [] j.previous 0 none 0 stamps j.entries w.entries w.writable taken w.keeps.new (omega (arith, w.few)) stamped right in
       let counted : 0 + length j.entries ≡ length j.entries = omega arith in
       let read = subst (λ (n : ℕ). Goes c (entries_lines version 1 stamps j.entries) (at places.Between due version j stamps (seen_after j.previous j.entries) n entries.last entries.stamp [])) counted entries.goes in
       record {
@@ -279,7 +280,7 @@ abbrev pub no_entries : JournalValue
 no_entries = record { previous = set.empty; entries = [] }
 
 pub no_entries_fit : IsWritten no_entries
-no_entries_fit = record { keeps = record { numbers = no_numbers; new = tt; writable = refl }; few = omega arith; previous = none_written; entries = tt }
+no_entries_fit = record { keeps = record { numbers = no_numbers; new = tt; writable = refl }; writable = refl; few = omega arith; previous = none_written; entries = tt }
 
 -- the entries after the lines so far, with the one that is open, and their numbers
 abbrev pub last_entries : LinePlace → Standing → List Entry

@@ -9,7 +9,7 @@ use Rattle.gtid_text.specs.Canonical.{gtid_text}
 use Rattle.gtid_text.specs.declared.Gtid.{Gtid}
 use Rattle.rows.specs.declared.change.Change.TheVariants.{Insert, Delete, Update}
 use Rattle.rows.specs.declared.schema.Table.{Table}
-use Rattle.rows.specs.Names.{is_name}
+use Rattle.rows.specs.Names.{is_short_name}
 use Rattle.row_images.specs.Words.{is_count, first_word, others}
 use Rattle.journal_words.specs.Gtids.{gtid_of_word, set_of_word}
 use Rattle.txn_journal.specs.WrittenSets.{set_text, IsWrittenSet}
@@ -132,16 +132,16 @@ pub nothing_both : (rest : Option (List ℕ)) → MatchResult (nothing_in rest) 
 nothing_both None = refl
 nothing_both (Some t) = tt
 
-name_found : (w name : List ℕ) → name_of w ≡ Some name → (w ≡ name) × (is_name name ≡ true)
-name_found w name e = elim (chosen (is_name w) (Some w) None (Some name) e) [
-  | inl p ↦ let same = same_Some w name p.1 in (same, ap is_name (sym same) ∙ p.0)
+pub name_found : (w name : List ℕ) → name_of w ≡ Some name → (w ≡ name) × (is_short_name name ≡ true)
+name_found w name e = elim (chosen (is_short_name w) (Some w) None (Some name) e) [
+  | inl p ↦ let same = same_Some w name p.1 in (same, ap is_short_name (sym same) ∙ p.0)
   | inr p ↦ absurd cc
 ]
 
-pub name_both : (w : List ℕ) → MatchResult (some_or_body (name_of w)) (λ name. (w ≡ name) × (is_name name ≡ true)) IsBody
+pub name_both : (w : List ℕ) → MatchResult (some_or_body (name_of w)) (λ name. (w ≡ name) × (is_short_name name ≡ true)) IsBody
 name_both w = some_both _ _ (name_of w) (name_found w) tt
 
-pub table_both : (rest : Option (List ℕ)) → MatchResult (table_in rest) (λ t. (rest ≡ Some (t.0 ++ 32 ∷ t.1)) × (is_name t.0 ≡ true)) IsBody
+pub table_both : (rest : Option (List ℕ)) → MatchResult (table_in rest) (λ t. (rest ≡ Some (t.0 ++ 32 ∷ t.1)) × (is_short_name t.0 ≡ true)) IsBody
 table_both None = tt
 table_both (Some text) =
     then_both _ _ (some_or_body (others text)) _ (some_both (λ r. others text ≡ Some r) _ (others text) (λ r e. e) tt)
@@ -187,7 +187,7 @@ rest_both schema s keywords.Close line first =
 
 -- ---- reading is complete
 
-pub table_again : (name text : List ℕ) → is_name name ≡ true → table_in (Some (name ++ 32 ∷ text)) ≡ Ok (name, text)
+pub table_again : (name text : List ℕ) → is_short_name name ≡ true → table_in (Some (name ++ 32 ∷ text)) ≡ Ok (name, text)
 table_again name text e = rw (others-front name text (name_no_blank name e), first_word-front name text (name_no_blank name e), e) refl
 
 beginning_again : (version : Version) (g : Gtid) (numbers : Option Numbers) → IsUsable g → AreCounts numbers → HasNumbers version numbers → beginning_in version (Some (gtid_text g ++ numbers_text numbers)) ≡ Ok (record { gtid = g; numbers = numbers })

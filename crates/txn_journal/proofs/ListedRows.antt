@@ -27,6 +27,7 @@ use Rattle.rows.specs.Total.{key_eq_same, key_eq_self}
 use Rattle.rows.specs.WriteSet.{is_among}
 use Rattle.rows.proofs.Carriers.{carried_table, apply_keeps_carriers, primary_keys_decide, no_carriers}
 use Rattle.rows.proofs.Local.{get-with_row}
+use Rattle.rows.specs.declared.limits.Limits.TheVariants.{Narrow}
 use Rattle.journal.specs.Writing.{is_image_writable}
 use Rattle.gtid_text.proofs.Turns.{chosen}
 use Rattle.txn_journal.specs.Lines.{◌>>=◌}
@@ -117,15 +118,15 @@ all_at P (x ∷ rs) r h (inl same) = subst P same h.0
 all_at P (x ∷ rs) r h (inr more) = all_at P rs r h.1 more
 
 abbrev IsWritable : TableRow → Type 0
-IsWritable r = is_image_writable r.row ≡ true
+IsWritable r = is_image_writable Narrow r.row ≡ true
 
-all_writable : (rs : List TableRow) → list_all (λ r. is_image_writable r.row) rs ≡ true → AllByRecursion IsWritable rs
+all_writable : (rs : List TableRow) → list_all (λ r. is_image_writable Narrow r.row) rs ≡ true → AllByRecursion IsWritable rs
 all_writable [] e = tt
-all_writable (r ∷ rs) e = let both = and_parts (is_image_writable r.row) (list_all (λ r. is_image_writable r.row) rs) e in (both.0, all_writable rs both.1)
+all_writable (r ∷ rs) e = let both = and_parts (is_image_writable Narrow r.row) (list_all (λ r. is_image_writable Narrow r.row) rs) e in (both.0, all_writable rs both.1)
 
-writable_all : (rs : List TableRow) → AllByRecursion IsWritable rs → list_all (λ r. is_image_writable r.row) rs ≡ true
+writable_all : (rs : List TableRow) → AllByRecursion IsWritable rs → list_all (λ r. is_image_writable Narrow r.row) rs ≡ true
 writable_all [] h = refl
-writable_all (r ∷ rs) h = and_from (is_image_writable r.row) (list_all (λ r. is_image_writable r.row) rs) h.0 (writable_all rs h.1)
+writable_all (r ∷ rs) h = and_from (is_image_writable Narrow r.row) (list_all (λ r. is_image_writable Narrow r.row) rs) h.0 (writable_all rs h.1)
 
 -- the schema takes the row
 abbrev IsTaken : List Table → TableRow → Type 0

@@ -62,7 +62,7 @@ record HasKey (schema : List Table) (r : TableRow) : Type 0 where
   key : Key
   among : is_among (carried_keys schema r.table r.row) key ≡ true
 
-key_in : (o : Option Table) (r : TableRow) → or_later (first_cause (misfit_in o (Insert r.table r.row)) (count_misfit 0)) 0 None ≡ None → (k : Key) × (is_among (keys_in o r.row) k ≡ true)
+key_in : (o : Option Table) (r : TableRow) → or_later (first_cause (misfit_in o (Insert r.table r.row)) (count_misfit o 0)) 0 None ≡ None → (k : Key) × (is_among (keys_in o r.row) k ≡ true)
 key_in None r e = absurd cc
 key_in (Some t) r e =
     let k : Key = record { table = t.name; index = 0; values = values_in t.primary r.row } in

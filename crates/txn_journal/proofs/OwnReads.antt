@@ -12,7 +12,8 @@ use Rattle.gtid_text.specs.Grammar.{ParsesAsSource}
 use Rattle.gtid_text.proofs.Shown.{source_shown, spaced_joined}
 use Rattle.gtid_text.proofs.Single.{source_reads_back, source_spelled}
 use Rattle.gtid_set.proofs.SpanLemmas.{all_weaker}
-use Rattle.rows.specs.Names.{is_name}
+use Rattle.rows.specs.Names.{is_short_name}
+use Rattle.rows.specs.declared.limits.Limits.TheVariants.{Narrow}
 use Rattle.row_images.specs.Words.{first_word, others}
 use Rattle.journal_words.specs.Gtids.{is_ascii_byte, same_or_none, source_of_word}
 use Rattle.row_images.proofs.Counts.{lacks, word_alone, word_and_more, first_word-front, others-front, first_word-whole, others-whole}
@@ -66,7 +67,7 @@ own_put s (Heads version) = Ok (record s { part = parts.Replica; version = versi
 own_put s (Names replica) = Ok (record s { part = after_replica s.version; bundle = bare replica set.empty [] })
 own_put s (Starts opened) = Ok (record s { part = parts.Tables; bundle = bare s.bundle.replica opened [] })
 own_put s (Has shape) = with_table s.tables shape >>= λ tables. Ok (record s { tables = tables })
-own_put s (Puts r) = cond (is_image_writable r.row) (put_row (after_tables s) r) (Err causes.Limit)
+own_put s (Puts r) = cond (is_image_writable Narrow r.row) (put_row (after_tables s) r) (Err causes.Limit)
 own_put s (Opens c) = join_channel s c
 own_put s Done = Ok (record (after_tables s) { part = parts.Ended })
 
@@ -123,7 +124,7 @@ preserve_both : (text : List ℕ) (rest : Option (List ℕ)) → others text ≡
 preserve_both text None o = word_alone text o ∙ sym (append-nil (first_word text))
 preserve_both text (Some w) o = if_both _ _ (bytes_eq w (codes "preserve")) _ _ (λ is. word_and_more text w o ∙ ap (λ (x : List ℕ). first_word text ++ 32 ∷ x) ((bytes_eq-Decides w (codes "preserve")).0 is)) (λ no. tt)
 
-channel_both : (rest : Option (List ℕ)) → MatchResult (channel_in rest) (λ c. (rest ≡ Some (c.name ++ preserve_text c.preserve)) × (is_name c.name ≡ true)) IsBody
+channel_both : (rest : Option (List ℕ)) → MatchResult (channel_in rest) (λ c. (rest ≡ Some (c.name ++ preserve_text c.preserve)) × (is_short_name c.name ≡ true)) IsBody
 unfolding channel_in
 channel_both None = tt
 channel_both (Some text) = then_both _ _ (some_or_body (name_of (first_word text))) _ (name_both (first_word text)) (λ name n. then_both _ _ (preserve_in (others text)) _ (preserve_both text (others text) refl)
@@ -149,7 +150,7 @@ rest_both s words.Done line first =
 
 -- ---- reading is complete
 
-channel_again : (name : List ℕ) (p : Bool) → is_name name ≡ true → channel_in (Some (name ++ preserve_text p)) ≡ Ok (record { name = name; preserve = p })
+channel_again : (name : List ℕ) (p : Bool) → is_short_name name ≡ true → channel_in (Some (name ++ preserve_text p)) ≡ Ok (record { name = name; preserve = p })
 unfolding channel_in
 channel_again name false e = rw (append-nil name, others-whole name (name_no_blank name e), first_word-whole name (name_no_blank name e), e) refl
 channel_again name true e = rw (others-front name (codes "preserve") (name_no_blank name e), first_word-front name (codes "preserve") (name_no_blank name e), e) refl

@@ -1,25 +1,29 @@
 -- A table's line: reading is sound and complete.
-use Rattle.std.proofs.Common.{◌≡◌, ℕ, ◌<◌, ◌≤◌, inl, inr, Bool, true, false, not, cond, leb, ltb, List, [], ◌∷◌, ◌++◌, length, map, Option, Some, None, Result, Ok, Err, refl, sym, ap, ◌∙◌, append_assoc, arith}
+use Rattle.std.proofs.Common.{◌≡◌, ℕ, ◌<◌, ◌≤◌, inl, inr, Bool, true, false, not, cond, leb, ltb, List, [], ◌∷◌, ◌++◌, length, map, Option, Some, None, Result, Ok, Err, refl, sym, subst, ap, ◌∙◌, append_assoc, arith}
 use Rattle.std.specs.Prelude.{◌&&◌, ◌||◌, codes, MatchResult}
 use Rattle.std.specs.List.{list_all}
 use Rattle.std.specs.Str.{bytes_eq}
 use Rattle.std.proofs.lemmas.Bool.{leb-true, leb-false, le-leb, lt-leb, ltb-true, lt-ltb, le-ltb, and_parts, not-false, or_parts}
+use Rattle.std.proofs.lemmas.Bool.Decides.{nat_tests}
 use Rattle.std.proofs.lemmas.Option.{same_Some}
 use Rattle.std.proofs.lemmas.List.{append-nil, length-map}
 use Rattle.std.proofs.lemmas.Slice.Eq.{bytes_eq-Decides}
 use Rattle.lemmas.proofs.Options.{cond_none}
-use Rattle.rows.specs.Names.{is_name}
+use Rattle.rows.specs.Names.{is_short_name}
+use Rattle.rows.specs.declared.limits.Limits.{Limits}
+use Rattle.rows.specs.declared.limits.Limits.TheVariants.{Narrow}
 use Rattle.rows.specs.declared.schema.Table.{Table}
 use Rattle.rows.specs.declared.schema.TableFault.{TableFault}
 use Rattle.rows.specs.declared.schema.TableFault.TheVariants as table_faults
 use Rattle.rows.specs.Tables.{are_distinct, is_column_list, has_column_lists, is_within_limits, are_below, has_its_columns, is_taken, table_fault}
+use Rattle.rows.specs.Limits.{most_tables, most_columns, most_uniques}
 use Rattle.row_images.specs.Words.{is_count, count_of}
 use Rattle.row_images.proofs.Counts.{lacks, is_count_decimal, count_again, count_found}
 use Rattle.txn_journal.specs.Words.{name_of}
 use Rattle.txn_journal.specs.Lines.{some_or_body}
 use Rattle.row_images.specs.Parts.{parts_of, joined_by}
 use Rattle.txn_journal.specs.Splits.{are_new_to, are_columns, is_columns_text, column_words, columns_text}
-use Rattle.txn_journal.specs.Shapes.{Shape, unique_words, shape_words, shape_text, FitsShape, uniques_from, is_head, shape_of, shape_in, few_columns, width_of, column_below, numbers_from, columns_in, keys_from, table_of, shape_for, after_fault, with_table}
+use Rattle.txn_journal.specs.Shapes.{Shape, unique_words, shape_words, shape_text, FitsShape, uniques_from, is_head, shape_of, shape_in, few_columns, width_of, column_below, numbers_from, columns_in, keys_from, table_of, FitsTable, shape_for, after_fault, with_table}
 use Rattle.txn_journal.specs.declared.fault.Cause.{Cause}
 use Rattle.txn_journal.specs.declared.fault.Cause.TheVariants as causes
 use Rattle.txn_journal.proofs.NameLemmas.{name_no_blank, name_no_feed}
@@ -174,6 +178,8 @@ record TableFound (s : Shape) (n : ℕ) (t : Table) : Type 0 where
   below : has_its_columns t ≡ true
   width : t.columns ≡ n
   name : t.name ≡ s.name
+  hidden : t.hidden ≡ 0
+  narrow : t.limits ≡ Narrow
   uniques : length t.uniques ≡ length s.uniques
 
 table_both : (s : Shape) (n : ℕ) → FitsShape s → count_of s.columns ≡ Some n → MatchResult (table_of s n) (TableFound s n) IsSchema
@@ -186,6 +192,8 @@ table_both s n f w = then_both _ _ (columns_in n s.primary) _ (columns_both n s.
       below = rw (c.below, ap (list_all (are_below n)) (sym k.whole) ∙ k.below) refl;
       width = refl;
       name = refl;
+      hidden = refl;
+      narrow = refl;
       uniques = sym (ap (λ (x : List (List ℕ)). length x) uniques ∙ length-map keys columns_text);
     }))
 
@@ -236,18 +244,18 @@ keys_fit limit (k ∷ ks) few e lists =
 pub record Allowed (tables : List Table) (t : Table) : Type 0 where
   pub lists : has_column_lists t ≡ true
   pub limits : is_within_limits t ≡ true
-  pub room : ltb (length tables) 256 ≡ true
+  pub room : ltb (length tables) (most_tables t.limits) ≡ true
   pub new : is_taken t.name tables ≡ false
   pub below : has_its_columns t ≡ true
 
 pub allowed : (tables : List Table) (t : Table) → table_fault tables t ≡ None → Allowed tables t
 allowed tables t e =
     let third : Option TableFault = cond (is_taken t.name tables || not (has_its_columns t)) (Some table_faults.Schema) None in
-    let second : Option TableFault = cond (not (is_within_limits t && ltb (length tables) 256)) (Some table_faults.Limit) third in
+    let second : Option TableFault = cond (not (is_within_limits t && ltb (length tables) (most_tables t.limits))) (Some table_faults.Limit) third in
     let p = cond_none (not (has_column_lists t)) table_faults.Body second e in
-    let q = cond_none (not (is_within_limits t && ltb (length tables) 256)) table_faults.Limit third p.1 in
+    let q = cond_none (not (is_within_limits t && ltb (length tables) (most_tables t.limits))) table_faults.Limit third p.1 in
     let r = cond_none (is_taken t.name tables || not (has_its_columns t)) table_faults.Schema None q.1 in
-    let w = and_parts (is_within_limits t) (ltb (length tables) 256) (not-false (is_within_limits t && ltb (length tables) 256) q.0) in
+    let w = and_parts (is_within_limits t) (ltb (length tables) (most_tables t.limits)) (not-false (is_within_limits t && ltb (length tables) (most_tables t.limits)) q.0) in
     let n = or_parts (is_taken t.name tables) (not (has_its_columns t)) r.0 in
     record { lists = not-false (has_column_lists t) p.0; limits = w.0; room = w.1; new = n.0; below = not-false (has_its_columns t) n.1 }
 
@@ -260,23 +268,34 @@ record Bounds (t : Table) : Type 0 where
   primary_below : are_below t.columns t.primary ≡ true
   uniques_below : list_all (are_below t.columns) t.uniques ≡ true
 
-bounds : (tables : List Table) (t : Table) → Allowed tables t → Bounds t
-bounds tables t a =
-    let p = and_parts (leb 1 t.columns && leb t.columns 64) (leb (length t.uniques) 8) a.limits in
-    let q = and_parts (leb 1 t.columns) (leb t.columns 64) p.0 in
+some_shown : (n : ℕ) → ltb 0 n ≡ true → leb 1 n ≡ true
+some_shown n e = grind (arith, nat_tests, e)
+
+bounds : (tables : List Table) (t : Table) → FitsTable t → Allowed tables t → Bounds t
+bounds tables t f a =
+    let p = and_parts (ltb t.hidden t.columns && leb t.columns (most_columns t.limits)) (leb (length t.uniques) (most_uniques t.limits)) a.limits in
+    let q = and_parts (ltb t.hidden t.columns) (leb t.columns (most_columns t.limits)) p.0 in
     let l = and_parts (is_column_list t.primary) (list_all is_column_list t.uniques) a.lists in
     let b = and_parts (are_below t.columns t.primary) (list_all (are_below t.columns) t.uniques) a.below in
-    record { some = q.0; few = q.1; uniques = p.1; primary_list = l.0; unique_lists = l.1; primary_below = b.0; uniques_below = b.1 }
+    record {
+      some = some_shown t.columns (subst (λ (n : ℕ). ltb n t.columns ≡ true) f.hidden q.0);
+      few = subst (λ (l : Limits). leb t.columns (most_columns l) ≡ true) f.limits q.1;
+      uniques = subst (λ (l : Limits). leb (length t.uniques) (most_uniques l) ≡ true) f.limits p.1;
+      primary_list = l.0;
+      unique_lists = l.1;
+      primary_below = b.0;
+      uniques_below = b.1;
+    }
 
-pub bounds_of : (tables : List Table) (t : Table) → Allowed tables t → t.columns ≤ 64
-bounds_of tables t a = leb-true t.columns 64 (bounds tables t a).few
+pub bounds_of : (tables : List Table) (t : Table) → FitsTable t → Allowed tables t → t.columns ≤ 64
+bounds_of tables t f a = leb-true t.columns 64 (bounds tables t f a).few
 
-pub shape_fits : (tables : List Table) (t : Table) → is_name t.name ≡ true → Allowed tables t → FitsShape (shape_for t)
-shape_fits tables t name a =
-    let b = bounds tables t a in
+pub shape_fits : (tables : List Table) (t : Table) → FitsTable t → Allowed tables t → FitsShape (shape_for t)
+shape_fits tables t f a =
+    let b = bounds tables t f a in
     let few = leb-true t.columns 64 b.few in
     record {
-      name = name;
+      name = f.name;
       columns = is_count_decimal t.columns (omega (arith, few));
       primary = columns_fit t.columns t.primary few b.primary_below b.primary_list;
       uniques = keys_fit t.columns t.uniques few b.uniques_below b.unique_lists;
@@ -285,31 +304,37 @@ shape_fits tables t name a =
 few_ltb : (n : ℕ) → leb n 8 ≡ true → ltb 8 n ≡ false
 few_ltb n e = let k = leb-true n 8 e in le-ltb 8 n k
 
-pub table_again : (tables : List Table) (t : Table) → Allowed tables t → (width_of (shape_for t) ≡ Ok t.columns) × (table_of (shape_for t) t.columns ≡ Ok t)
+abbrev ok_table : Table → Result Table Cause
+ok_table x = Ok x
+
+as_read : (t : Table) → FitsTable t → ok_table (record t { hidden = 0; limits = Narrow }) ≡ Ok t
+as_read t f = λ i. ok_table (record t { hidden = sym f.hidden i; limits = sym f.limits i })
+
+pub table_again : (tables : List Table) (t : Table) → FitsTable t → Allowed tables t → (width_of (shape_for t) ≡ Ok t.columns) × (table_of (shape_for t) t.columns ≡ Ok t)
 unfolding width_of table_of
-table_again tables t a =
-    let b = bounds tables t a in
+table_again tables t f a =
+    let b = bounds tables t f a in
     let few = leb-true t.columns 64 b.few in (
       rw (length-map t.uniques columns_text, few_ltb (length t.uniques) b.uniques, count_again t.columns (omega (arith, few)), b.some, b.few) refl,
-      rw (columns_again t.columns t.primary few b.primary_below b.primary_list, keys_again t.columns [] t.uniques few b.uniques_below b.unique_lists) refl,
+      rw (columns_again t.columns t.primary few b.primary_below b.primary_list, keys_again t.columns [] t.uniques few b.uniques_below b.unique_lists) (as_read t f),
     )
 
 room_leb : (n : ℕ) → ltb n 256 ≡ true → leb 256 n ≡ false
 room_leb n e = let k = ltb-true n 256 e in lt-leb 256 n k
 
-pub with_again : (tables : List Table) (t : Table) → table_fault tables t ≡ None → with_table tables (shape_for t) ≡ Ok (tables ++ t ∷ [])
+pub with_again : (tables : List Table) (t : Table) → FitsTable t → table_fault tables t ≡ None → with_table tables (shape_for t) ≡ Ok (tables ++ t ∷ [])
 unfolding with_table
-with_again tables t e =
+with_again tables t f e =
     let a = allowed tables t e in
-    let g = table_again tables t a in
-    rw (g.0, room_leb (length tables) a.room, g.1, e) refl
+    let g = table_again tables t f a in
+    rw (g.0, room_leb (length tables) (subst (λ (l : Limits). ltb (length tables) (most_tables l) ≡ true) f.limits a.room), g.1, e) refl
 
 -- ---- the table that a line adds, or why it adds none
 
 pub record Adds (tables : List Table) (s : Shape) (new : List Table) : Type 0 where
   pub table : Table
   pub shape : s ≡ shape_for table
-  pub name : is_name table.name ≡ true
+  pub fits : FitsTable table
   pub free : table_fault tables table ≡ None
   pub after : tables ++ table ∷ [] ≡ new
 
@@ -339,11 +364,11 @@ unfolding width_of TableErr
 width_both tables s = if_both _ _ (ltb 8 (length s.uniques)) _ _ (λ many. inl (ltb-true 8 (length s.uniques) many)) (λ few. few_both tables s (count_of s.columns) few refl)
 
 -- a table of this shape that may come is the one that is read
-read_table : (tables : List Table) (s : Shape) (n : ℕ) (t : Table) → count_of s.columns ≡ Some n → s ≡ shape_for t → table_fault tables t ≡ None → table_of s n ≡ Ok t
-read_table tables s n t w same free =
+read_table : (tables : List Table) (s : Shape) (n : ℕ) (t : Table) → FitsTable t → count_of s.columns ≡ Some n → s ≡ shape_for t → table_fault tables t ≡ None → table_of s n ≡ Ok t
+read_table tables s n t f w same free =
     let a = allowed tables t free in
-    let width : t.columns ≡ n = same_Some t.columns n (sym (count_again t.columns (omega (arith, bounds_of tables t a))) ∙ ap (λ (x : Shape). count_of x.columns) (sym same) ∙ w) in
-    (λ i. table_of (same i) (sym width i)) ∙ (table_again tables t a).1
+    let width : t.columns ≡ n = same_Some t.columns n (sym (count_again t.columns (omega (arith, bounds_of tables t f a))) ∙ ap (λ (x : Shape). count_of x.columns) (sym same) ∙ w) in
+    (λ i. table_of (same i) (sym width i)) ∙ (table_again tables t f a).1
 
 within_of : (tables : List Table) (s : Shape) (n : ℕ) → WidthFound s n → leb 256 (length tables) ≡ false → PassesTableLimit tables s → ⊥
 within_of tables s n w room (inl many) = let k = lt-ltb 8 (length s.uniques) many in let f = w.few_uniques in cc
@@ -351,12 +376,15 @@ within_of tables s n w room (inr (inl none)) = none (record { width = n; written
 within_of tables s n w room (inr (inr full)) = let k = le-leb 256 (length tables) full in cc
 
 -- what is in the grammar and within the limits does not fit the tables before, where it fails
-only_schema : (tables : List Table) (t : Table) → has_column_lists t ≡ true → is_within_limits t ≡ true → ltb (length tables) 256 ≡ true → table_fault tables t ≡ cond (is_taken t.name tables || not (has_its_columns t)) (Some table_faults.Schema) None
+only_schema : (tables : List Table) (t : Table) → has_column_lists t ≡ true → is_within_limits t ≡ true → ltb (length tables) (most_tables t.limits) ≡ true → table_fault tables t ≡ cond (is_taken t.name tables || not (has_its_columns t)) (Some table_faults.Schema) None
 only_schema tables t lists limits room = rw (lists, limits, room) refl
 
-within_t : (t : Table) (n m : ℕ) → t.columns ≡ n → length t.uniques ≡ m → leb 1 n ≡ true → leb n 64 ≡ true → ltb 8 m ≡ false → is_within_limits t ≡ true
-within_t t n m width uniques a b c = rw (width, uniques, a, b) (few_of m c)
+within_t : (t : Table) (n m : ℕ) → t.hidden ≡ 0 → t.limits ≡ Narrow → t.columns ≡ n → length t.uniques ≡ m → leb 1 n ≡ true → leb n 64 ≡ true → ltb 8 m ≡ false → is_within_limits t ≡ true
+within_t t n m hidden narrow width uniques a b c = rw (hidden, narrow, width, uniques, shown n a, b) (few_of m c)
   where
+    shown : (n : ℕ) → leb 1 n ≡ true → ltb 0 n ≡ true
+    shown n e = grind (arith, nat_tests, e)
+
     few_of : (n : ℕ) → ltb 8 n ≡ false → leb n 8 ≡ true
     few_of n e = grind arith
 
@@ -366,16 +394,16 @@ added_both : (tables : List Table) (s : Shape) (n : ℕ) (t : Table) (b : Bool) 
 unfolding TableErr
 added_both tables s n t true f w room e h fault = (
   within_of tables s n w room,
-  λ u same free.
-      let one : t ≡ u = ok_is t u (sym e ∙ read_table tables s n u w.written same free) in
+  λ u fits same free.
+      let one : t ≡ u = ok_is t u (sym e ∙ read_table tables s n u fits w.written same free) in
       let k = sym (ap (table_fault tables) one ∙ free) ∙ fault in cc,
 )
-added_both tables s n t false f w room e h fault = record { table = t; shape = h.shape; name = ap is_name h.name ∙ f.name; free = fault; after = refl }
+added_both tables s n t false f w room e h fault = record { table = t; shape = h.shape; fits = record { name = ap is_short_name h.name ∙ f.name; hidden = h.hidden; limits = h.narrow }; free = fault; after = refl }
 
 table_read : (tables : List Table) (s : Shape) (n : ℕ) (r : Result Table Cause) → WidthFound s n → leb 256 (length tables) ≡ false → table_of s n ≡ r → MatchResult r (TableFound s n) IsSchema → MatchResult r (λ t. (leb 256 (length tables) ≡ false) × (table_of s n ≡ Ok t) × TableFound s n t) (TableErr tables s)
 unfolding TableErr
 table_read tables s n (Ok t) w room e h = (room, e, h)
-table_read tables s n (Err causes.Schema) w room e h = (within_of tables s n w room, λ t same free. let k = sym (read_table tables s n t w.written same free) ∙ e in cc)
+table_read tables s n (Err causes.Schema) w room e h = (within_of tables s n w room, λ t fits same free. let k = sym (read_table tables s n t fits w.written same free) ∙ e in cc)
 table_read tables s n (Err c) w room e h = absurd h
 
 pub with_both : (tables : List Table) (s : Shape) → FitsShape s → MatchResult (with_table tables s) (Adds tables s) (TableErr tables s)
@@ -385,8 +413,8 @@ with_both tables s f = then_both _ _ (width_of s) _ (width_both tables s) (λ n 
     (if_both (λ t. (leb 256 (length tables) ≡ false) × (table_of s n ≡ Ok t) × TableFound s n t) _ (leb 256 (length tables)) _ _ (λ full. inr (inr (leb-true 256 (length tables) full)))
     (λ room. table_read tables s n (table_of s n) w room refl (table_both s n f w.written)))
     (λ t h.
-    let limits = within_t t n (length s.uniques) h.2.width h.2.uniques w.some w.few w.few_uniques in
-    let fault = only_schema tables t h.2.lists limits (not_leb (length tables) h.0) in
+    let limits = within_t t n (length s.uniques) h.2.hidden h.2.narrow h.2.width h.2.uniques w.some w.few w.few_uniques in
+    let fault = only_schema tables t h.2.lists limits (subst (λ (l : Limits). ltb (length tables) (most_tables l) ≡ true) (sym h.2.narrow) (not_leb (length tables) h.0)) in
     rw fault (added_both tables s n t (is_taken t.name tables || not (has_its_columns t)) f w h.0 h.1 h.2 fault)))
   where
     not_leb : (n : ℕ) → leb 256 n ≡ false → ltb n 256 ≡ true

@@ -17,6 +17,7 @@ use Rattle.gtid_set.specs.Sets.{Gtids, greatest}
 use Rattle.gtid_set.proofs.SpanLemmas.{all_push}
 use Rattle.rows.specs.declared.change.Change.{Change}
 use Rattle.rows.specs.declared.schema.Table.{Table}
+use Rattle.rows.specs.declared.limits.Limits.TheVariants.{Narrow}
 use Rattle.journal.specs.declared.Entry.{Entry}
 use Rattle.journal.specs.Journals.{AreNew}
 use Rattle.journal.specs.Writing.{is_number, is_change_writable, is_writable}
@@ -32,6 +33,7 @@ use Rattle.txn_journal.specs.declared.lines.Version.{Version}
 use Rattle.txn_journal.specs.declared.lines.Version.TheVariants.{One, Two}
 use Rattle.txn_journal.specs.Wordings.{ParsesAsLine}
 use Rattle.txn_journal.specs.Causes.{word_for, HasNumbers, PassesLimit, wording, HasCause}
+use Rattle.journal.proofs.WritableLemmas.{all_widened}
 use Rattle.txn_journal.proofs.GtidLaws.{written_numbers}
 use Rattle.txn_journal.proofs.Judged.{if_both}
 use Rattle.txn_journal.proofs.WordLaws.{judged_both}
@@ -54,7 +56,7 @@ fits_in schema e = list_all (fits schema) e.txn.changes
 pub record Whole (schema : Option (List Table)) (s : Standing) : Type 0 where
   pub due : takes s.due s.version ≡ true
   pub new : AreNew s.journal.previous s.journal.entries
-  pub writable : list_all is_writable s.journal.entries ≡ true
+  pub writable : list_all (is_writable Narrow) s.journal.entries ≡ true
   pub previous : IsWrittenSet s.journal.previous
   pub fits : AllByRecursion FitsEntry s.journal.entries
   pub fitting : list_all (fits_in schema) s.journal.entries ≡ true
@@ -71,7 +73,7 @@ pub record Opened (schema : Option (List Table)) (s : Standing) : Type 0 where
   pub stamp : IsStamp s.version (s.count + 1) s.stamp
   pub room : s.count < 4294967294
   pub few : length s.changes ≤ 65536
-  pub writable : list_all is_change_writable s.changes ≡ true
+  pub writable : list_all (is_change_writable Narrow) s.changes ≡ true
   pub taken : list_all (fits schema) s.changes ≡ true
   pub fits : AllByRecursion FitsChange s.changes
 
@@ -122,7 +124,7 @@ lines_more version place (l ∷ ls) (f ∷ fs) stamp e h =
 lines_more version place [] (f ∷ fs) stamp e h = absurd h
 lines_more version place (l ∷ ls) [] stamp e h = absurd h
 
-entry_writable : (s : Standing) → is_number s.gtid.number ≡ true → length s.changes ≤ 65536 → list_all is_change_writable s.changes ≡ true → is_writable (open_entry s) ≡ true
+entry_writable : (s : Standing) → is_number s.gtid.number ≡ true → length s.changes ≤ 65536 → list_all (is_change_writable Narrow) s.changes ≡ true → is_writable Narrow (open_entry s) ≡ true
 entry_writable s number few all = rw (number, le-leb (length s.changes) 65536 few, all) refl
 
 pub whole_more : (schema : Option (List Table)) (s : Standing) → Opened schema s → Whole schema (close_entry s)
@@ -133,7 +135,7 @@ whole_more schema s o =
     record {
       due = w.due;
       new = new_more j.previous j.entries (open_entry s) w.new (ap (λ (seen : Gtids). set.contains seen s.gtid) (sym w.all_seen) ∙ o.unseen);
-      writable = all_push is_writable j.entries (open_entry s) w.writable (entry_writable s o.number o.few o.writable);
+      writable = all_push (is_writable Narrow) j.entries (open_entry s) w.writable (entry_writable s o.number o.few o.writable);
       previous = w.previous;
       fits = all_more FitsEntry j.entries (open_entry s) w.fits (record { source = o.usable.source; changes = o.fits });
       fitting = all_push (fits_in schema) j.entries (open_entry s) w.fitting o.taken;
@@ -228,23 +230,23 @@ begin_both schema s line g numbers P h more =
         (λ unseen. found stamp e unseen)
 
 pub add_both : (schema : Option (List Table)) (s : Standing) (line : List ℕ) (c : Change) (P : Standing → Type 0) → ParsesAsLine (wording schema s) line (Makes c)
-    → (length s.changes < 65536 → is_change_writable c ≡ true → fits schema c ≡ true → P (record s { changes = s.changes ++ c ∷ [] })) → MatchResult (add schema s c) P (HasCause schema s line)
+    → (length s.changes < 65536 → is_change_writable Narrow c ≡ true → fits schema c ≡ true → P (record s { changes = s.changes ++ c ∷ [] })) → MatchResult (add schema s c) P (HasCause schema s line)
 unfolding add
 add_both schema s line c P h more =
-    if_both P (HasCause schema s line) (leb 65536 (length s.changes) || not (is_change_writable c)) _ _ (λ passes. (Makes c, h, limit_of s c passes))
-    (λ within. let w = or_parts (leb 65536 (length s.changes)) (not (is_change_writable c)) within in
+    if_both P (HasCause schema s line) (leb 65536 (length s.changes) || not (is_change_writable Narrow c)) _ _ (λ passes. (Makes c, h, limit_of s c passes))
+    (λ within. let w = or_parts (leb 65536 (length s.changes)) (not (is_change_writable Narrow c)) within in
     if_both P (HasCause schema s line) (not (fits schema c)) _ _ (λ misfit. (Makes c, h, within_limits s c w.0 w.1, not-true (fits schema c) misfit))
-    (λ taken. more (leb-false _ _ w.0) (not-false (is_change_writable c) w.1) (not-false (fits schema c) taken)))
+    (λ taken. more (leb-false _ _ w.0) (not-false (is_change_writable Narrow c) w.1) (not-false (fits schema c) taken)))
   where
-    limit_of : (s : Standing) (x : Change) → (leb 65536 (length s.changes) || not (is_change_writable x)) ≡ true → PassesLimit s (Makes x)
-    limit_of s x e = elim (or_cases (leb 65536 (length s.changes)) (not (is_change_writable x)) e) [
+    limit_of : (s : Standing) (x : Change) → (leb 65536 (length s.changes) || not (is_change_writable Narrow x)) ≡ true → PassesLimit s (Makes x)
+    limit_of s x e = elim (or_cases (leb 65536 (length s.changes)) (not (is_change_writable Narrow x)) e) [
       | inl p ↦ inl (leb-true _ _ p)
-      | inr p ↦ inr (not-true (is_change_writable x) p)
+      | inr p ↦ inr (not-true (is_change_writable Narrow x) p)
     ]
 
-    within_limits : (s : Standing) (x : Change) → leb 65536 (length s.changes) ≡ false → not (is_change_writable x) ≡ false → PassesLimit s (Makes x) → ⊥
+    within_limits : (s : Standing) (x : Change) → leb 65536 (length s.changes) ≡ false → not (is_change_writable Narrow x) ≡ false → PassesLimit s (Makes x) → ⊥
     within_limits s x few short (inl many) = let k = le-leb 65536 (length s.changes) many in cc
-    within_limits s x few short (inr long) = let m : not (is_change_writable x) ≡ true = ap not long in cc
+    within_limits s x few short (inr long) = let m : not (is_change_writable Narrow x) ≡ true = ap not long in cc
 
 no_change : (place : LinePlace) (c : Change) → is_due place (word_for (Makes c)) ≡ true → place ≡ places.Within
 no_change place c e = grind arith
@@ -292,7 +294,7 @@ keeps_at schema places.Between s line (Begin x numbers) h is k =
         stamp = f.1;
         room = room;
         few = omega (arith, ap length h.1);
-        writable = ap (list_all is_change_writable) h.1;
+        writable = ap (list_all (is_change_writable Narrow)) h.1;
         fits = subst (λ (ds : List Change). AllByRecursion FitsChange ds) (sym h.1) tt;
         taken = ap (list_all (fits schema)) h.1;
       };
@@ -313,7 +315,7 @@ keeps_at schema places.Within s line (Makes c) h is k =
         stamp = h.stamp;
         room = h.room;
         few = omega (arith, room, length-append s.changes (c ∷ []));
-        writable = all_push is_change_writable s.changes c h.writable writable;
+        writable = all_push (is_change_writable Narrow) s.changes c h.writable writable;
         fits = all_more FitsChange s.changes c h.fits k.fits.words;
         taken = all_push (fits schema) s.changes c h.taken taken;
       };
@@ -335,4 +337,4 @@ judged_line schema s line h =
     (λ l k. MatchResult-weaker (put schema s l) (keeps_at schema s.place s line l h k.due k) (λ t m. record { l = l; text = k.text; due = k.due; keeps = m }) (λ c m. m)))
 
 pub whole_written : (schema : Option (List Table)) (s : Standing) → Whole schema s → IsWritten s.journal
-whole_written schema s w = record { keeps = record { numbers = written_numbers s.journal.previous w.previous; new = w.new; writable = w.writable }; few = omega (arith, w.few, w.counted); previous = w.previous; entries = w.fits }
+whole_written schema s w = record { keeps = record { numbers = written_numbers s.journal.previous w.previous; new = w.new; writable = all_widened s.journal.entries w.writable }; writable = w.writable; few = omega (arith, w.few, w.counted); previous = w.previous; entries = w.fits }

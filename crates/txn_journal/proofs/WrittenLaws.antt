@@ -1,8 +1,8 @@
 -- Journals that the grammar has a text for.
 use Rattle.std.proofs.Common.{◌≡◌, ℕ, ◌≤◌, true, List, [], ◌∷◌, sym, ap, ◌∙◌, arith}
 use Rattle.std.specs.FinSet as set
-use Rattle.std.specs.List.{AllByRecursion}
-use Rattle.std.proofs.lemmas.Bool.{or_left, or_right}
+use Rattle.std.specs.List.{list_all, AllByRecursion}
+use Rattle.std.proofs.lemmas.Bool.{and_parts, or_left, or_right}
 use Rattle.std.proofs.lemmas.Bool.Decides.{nat_tests}
 use Rattle.gtid_text.specs.declared.Gtid.{Gtid}
 use Rattle.gtid_text.specs.declared.Span.{Span}
@@ -15,9 +15,14 @@ use Rattle.gtid_set.specs.Runs.{runs}
 use Rattle.gtid_set.proofs.SetLemmas.{contains-set_of}
 use Rattle.gtid_set.proofs.SpanLemmas.{merged_head}
 use Rattle.gtid_set.proofs.RunLemmas.{runs_are_merged, set_of_runs}
+use Rattle.journal.specs.declared.Entry.{Entry}
 use Rattle.journal.specs.Journals.{JournalValue, IsJournal}
+use Rattle.rows.specs.declared.change.Change.{Change}
+use Rattle.rows.specs.declared.change.Change.TheVariants.{Insert, Delete, Update}
+use Rattle.rows.specs.Fits.{table_of}
+use Rattle.rows.specs.Names.{is_short_name}
 use Rattle.rows.specs.declared.schema.Table.{Table}
-use Rattle.txn_journal.specs.Spelling.{FitsEntry, HasFewEntries, IsWritten, Writes, spelling, spelling_as}
+use Rattle.txn_journal.specs.Spelling.{FitsChange, FitsEntry, has_short_names, FitsText, HasValues, IsOfParts, IsWritten, Writes, spelling, spelling_as}
 use Rattle.txn_journal.specs.Stamps.{no_stamps, right_stamps}
 use Rattle.txn_journal.specs.Timestamped.{WritesTimestamped, with_timestamps}
 use Rattle.txn_journal.specs.WrittenSets.{IsWrittenSet}
@@ -55,12 +60,30 @@ usable_written s u = record {
 
 -- ---- journals
 
-pub few_written : (j : JournalValue) → IsJournal j.previous j.entries → HaveSources j.previous → AllByRecursion FitsEntry j.entries → HasFewEntries j → IsWritten j
-few_written j keeps sources fit few = record {
+change_named : (c : Change) → HasValues c → is_short_name (table_of c) ≡ true → FitsChange c
+change_named (Insert table after) h name = (name, h)
+change_named (Delete table before) h name = (name, h)
+change_named (Update table before after) h name = (name, h.0, h.1)
+
+changes_named : (cs : List Change) → AllByRecursion HasValues cs → list_all (λ c. is_short_name (table_of c)) cs ≡ true → AllByRecursion FitsChange cs
+changes_named [] h names = tt
+changes_named (c ∷ cs) h names =
+    let p = and_parts (is_short_name (table_of c)) (list_all (λ c. is_short_name (table_of c)) cs) names in
+    (change_named c h.0 p.0, changes_named cs h.1 p.1)
+
+entries_named : (es : List Entry) → AllByRecursion IsOfParts es → list_all has_short_names es ≡ true → AllByRecursion FitsEntry es
+entries_named [] h names = tt
+entries_named (e ∷ es) h names =
+    let p = and_parts (has_short_names e) (list_all has_short_names es) names in
+    (record { source = h.0.source; changes = changes_named e.txn.changes h.0.values p.0 }, entries_named es h.1 p.1)
+
+pub few_written : (j : JournalValue) → IsJournal j.previous j.entries → HaveSources j.previous → AllByRecursion IsOfParts j.entries → FitsText j → IsWritten j
+few_written j keeps sources parts fits = record {
   keeps = keeps;
-  few = few;
+  writable = fits.writable;
+  few = fits.few;
   previous = usable_written j.previous (λ g e. record { source = sources g e; number = keeps.numbers g e });
-  entries = fit;
+  entries = entries_named j.entries parts fits.named;
 }
 
 pub spelled_written : (bytes : List ℕ) (j : JournalValue) → IsWritten j → bytes ≡ spelling j → Writes bytes j

@@ -3,13 +3,14 @@ use Rattle.std.specs.Prelude.{◌≡◌, ◌⊎◌, ℕ, ◌<◌, ◌≤◌, tru
 use Rattle.gtid_text.specs.Written.{IsSource}
 use Rattle.rows.specs.declared.schema.Table.{Table}
 use Rattle.rows.specs.Apply.{Rows}
-use Rattle.rows.specs.Names.{is_name}
+use Rattle.rows.specs.Names.{is_short_name}
 use Rattle.rows.specs.Tables.{table_fault}
+use Rattle.rows.specs.declared.limits.Limits.TheVariants.{Narrow}
 use Rattle.journal.specs.Writing.{is_image_writable}
 use Rattle.row_images.specs.Words.{count_of}
 use Rattle.txn_journal.specs.Wordings.{Wording, HasCauseBy}
 use Rattle.txn_journal.specs.Causes.{HasCause}
-use Rattle.txn_journal.specs.Shapes.{Shape, FitsShape, shape_for}
+use Rattle.txn_journal.specs.Shapes.{Shape, FitsShape, FitsTable, shape_for}
 use Rattle.txn_journal.specs.BundleStates.{BundleStanding, word_of, is_due_in, after_tables, has_channel, with_opening}
 use Rattle.txn_journal.specs.BundleText.{OwnLine, Heads, Names, Starts, Has, Puts, Opens, Done, own_text, FitsRow}
 use Rattle.txn_journal.specs.declared.bundle_draft.Part.{Part}
@@ -52,7 +53,7 @@ FitsOwn due (Names replica) = IsSource replica
 FitsOwn due (Starts opened) = IsWrittenSet opened
 FitsOwn due (Has shape) = FitsShape shape
 FitsOwn due (Puts r) = FitsRow r
-FitsOwn due (Opens c) = is_name c.name ≡ true
+FitsOwn due (Opens c) = is_short_name c.name ≡ true
 FitsOwn due Done = Unit {0}
 
 -- a table has 1 to 64 columns
@@ -68,12 +69,12 @@ PassesTableLimit tables shape = (8 < length shape.uniques) ⊎ ((HasWidth shape 
 
 -- no table of this shape may come after the others
 abbrev pub HasNoPlace : List Table → Shape → Type 0
-HasNoPlace tables shape = (t : Table) → shape ≡ shape_for t → table_fault tables t ≡ None → ⊥
+HasNoPlace tables shape = (t : Table) → FitsTable t → shape ≡ shape_for t → table_fault tables t ≡ None → ⊥
 
 -- a limit that the line passes: of tables, unique keys and columns, of values of a row and their bytes, and of channels
 abbrev pub PassesOwnLimit : BundleStanding → OwnLine → Type 0
 PassesOwnLimit s (Has shape) = PassesTableLimit s.tables shape
-PassesOwnLimit s (Puts r) = is_image_writable r.row ≡ false
+PassesOwnLimit s (Puts r) = is_image_writable Narrow r.row ≡ false
 PassesOwnLimit s (Opens c) = 256 ≤ length s.bundle.channels
 PassesOwnLimit s _ = ⊥
 

@@ -15,6 +15,7 @@ use Rattle.rows.specs.declared.change.RowFault.{RowFault}
 use Rattle.rows.specs.Apply.{Rows, apply}
 use Rattle.rows.specs.Fits.{misfit}
 use Rattle.rows.specs.Database.{Database, opening}
+use Rattle.rows.specs.declared.limits.Limits.TheVariants.{Narrow}
 use Rattle.journal.specs.Journals.{JournalValue}
 use Rattle.journal.specs.Writing.{is_image_writable}
 use Rattle.row_images.specs.Words.{first_word, others}
@@ -176,7 +177,7 @@ unfoldable pub row_line : BundleStanding → Option (List ℕ) → Result Bundle
 row_line s rest = do
   table ← table_in rest
   row ← image_in table.1
-  if is_image_writable row then put_row (after_tables s) (record { table = table.0; row = row }) else Err causes.Limit
+  if is_image_writable Narrow row then put_row (after_tables s) (record { table = table.0; row = row }) else Err causes.Limit
 
 unfoldable pub join_channel : BundleStanding → BundleChannel → Result BundleStanding Cause
 join_channel s channel =

@@ -10,15 +10,16 @@ use Rattle.rows.specs.declared.schema.Table.{Table}
 use Rattle.rows.specs.Apply.{Rows}
 use Rattle.rows.specs.Database.{Database}
 use Rattle.rows.specs.Listing.{rows_listed}
-use Rattle.rows.specs.Names.{is_name}
+use Rattle.rows.specs.Names.{is_short_name}
 use Rattle.rows.specs.Tables.{table_fault}
+use Rattle.rows.specs.declared.limits.Limits.TheVariants.{Narrow}
 use Rattle.journal.specs.declared.Entry.{Entry}
 use Rattle.journal.specs.Journals.{JournalValue}
 use Rattle.journal.specs.Writing.{is_image_writable}
 use Rattle.gtid_set.specs.Sets.{Gtids}
 use Rattle.txn_journal.specs.Lines.{◌>>=◌, takes}
 use Rattle.txn_journal.specs.Machine.{fits}
-use Rattle.txn_journal.specs.Shapes.{Shape, shape_text, shape_for}
+use Rattle.txn_journal.specs.Shapes.{Shape, shape_text, FitsTable, shape_for}
 use Rattle.txn_journal.specs.BundleStates.{BundleValue, has_channel, with_opening}
 use Rattle.txn_journal.specs.Spelling.{Line, version_text, image_text, line_text, journal_lines, IsWritten, IsStamp}
 use Rattle.row_images.specs.Images.{AreValues}
@@ -115,14 +116,14 @@ bundle_spelling version rows b = bundle_text (bundle_lines version rows (all_sta
 
 -- a table's name, and one or more values
 pub record FitsRow (r : TableRow) : Type 0 where
-  pub name : is_name r.table ≡ true
+  pub name : is_short_name r.table ≡ true
   pub values : AreValues r.row
   pub some : 0 < length r.row
 
--- each table has a name and may come after those before it
+-- each table may come after those before it
 abbrev pub AreAdded : List Table → List Table → Type 0
 AreAdded before [] = Unit {0}
-AreAdded before (t ∷ ts) = (is_name t.name ≡ true) × (table_fault before t ≡ None) × AreAdded (before ++ t ∷ []) ts
+AreAdded before (t ∷ ts) = FitsTable t × (table_fault before t ≡ None) × AreAdded (before ++ t ∷ []) ts
 
 -- the opening rows that come of these, put in turn
 abbrev pub put_all : Database → List TableRow → Result Rows Cause
@@ -132,13 +133,13 @@ put_all d (r ∷ rs) = with_opening d r >>= λ rows. put_all (record d { rows = 
 -- each row can be written, and their schema takes them all in turn
 pub record AreOpening (schema : List Table) (rs : List TableRow) (rows : Rows) : Type 0 where
   pub fit : AllByRecursion FitsRow rs
-  pub writable : list_all (λ r. is_image_writable r.row) rs ≡ true
+  pub writable : list_all (λ r. is_image_writable Narrow r.row) rs ≡ true
   pub put : put_all (record { schema = schema; rows = map_of.empty }) rs ≡ Ok rows
 
 -- each channel has a name that none before it has
 abbrev pub AreNamed : List BundleChannel → List BundleChannel → Type 0
 AreNamed before [] = Unit {0}
-AreNamed before (c ∷ cs) = (is_name c.name ≡ true) × (has_channel before c.name ≡ false) × AreNamed (before ++ c ∷ []) cs
+AreNamed before (c ∷ cs) = (is_short_name c.name ≡ true) × (has_channel before c.name ≡ false) × AreNamed (before ++ c ∷ []) cs
 
 -- the tables take each change of an entry
 abbrev pub entry_fits : List Table → Entry → Bool

@@ -4,6 +4,7 @@ use Rattle.std.specs.FinSet as set
 use Rattle.gtid_text.specs.Written.{IsUsable}
 use Rattle.rows.specs.declared.change.Change.TheVariants.{Insert, Delete, Update}
 use Rattle.rows.specs.declared.schema.Table.{Table}
+use Rattle.rows.specs.declared.limits.Limits.TheVariants.{Narrow}
 use Rattle.journal.specs.Writing.{is_change_writable}
 use Rattle.gtid_text.specs.declared.Gtid.{Gtid}
 use Rattle.txn_journal.specs.Due.{is_due}
@@ -82,7 +83,7 @@ pub record FitsAt (due : Option Version) (version : Version) (l : Line) : Type 0
 -- a limit that the line passes: of entries, of changes, of values of an image and of bytes of a value
 abbrev pub PassesLimit : Standing → Line → Type 0
 PassesLimit s (Begin g numbers) = 4294967294 ≤ s.count
-PassesLimit s (Makes change) = (65536 ≤ length s.changes) ⊎ (is_change_writable change ≡ false)
+PassesLimit s (Makes change) = (65536 ≤ length s.changes) ⊎ (is_change_writable Narrow change ≡ false)
 PassesLimit s _ = ⊥
 
 -- a change that no table takes, if there is a schema

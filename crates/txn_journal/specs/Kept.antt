@@ -5,6 +5,7 @@ use Rattle.std.specs.FinSet as set
 use Rattle.gtid_text.specs.declared.Gtid.{Gtid}
 use Rattle.gtid_set.specs.Sets.{Gtids}
 use Rattle.rows.specs.declared.change.Change.{Change}
+use Rattle.rows.specs.declared.limits.Limits.TheVariants.{Narrow}
 use Rattle.journal.specs.Journals.{JournalValue, whole}
 use Rattle.journal.specs.Writing.{is_number, is_change_writable}
 use Rattle.txn_journal.specs.declared.lines.LinePlace.{LinePlace}
@@ -25,4 +26,4 @@ IsOpenNew place seen count gtid = place ≡ Within → HasRoomFor seen count gti
 
 -- the changes of an entry that is open can be written
 abbrev pub AreWritable : List Change → Type 0
-AreWritable changes = (nat_le (length changes) 65536 && list_all is_change_writable changes) ≡ true
+AreWritable changes = (nat_le (length changes) 65536 && list_all (is_change_writable Narrow) changes) ≡ true

@@ -11,6 +11,7 @@ use Rattle.rows.specs.declared.change.Change.TheVariants.{Insert, Delete, Update
 use Rattle.rows.specs.declared.schema.Table.{Table}
 use Rattle.rows.specs.Keys.{find_table}
 use Rattle.rows.specs.Fits.{has_primary_null, table_of}
+use Rattle.rows.specs.declared.limits.Limits.TheVariants.{Narrow}
 use Rattle.journal.specs.declared.Entry.{Entry}
 use Rattle.journal.specs.Journals.{JournalValue}
 use Rattle.journal.specs.Writing.{is_number, is_change_writable}
@@ -104,7 +105,7 @@ fits (Some tables) change = takes_change (find_table (table_of change) tables) c
 
 unfoldable pub add : Option (List Table) → Standing → Change → Result Standing Cause
 add schema s change =
-    if nat_le 65536 (length s.changes) || not (is_change_writable change) then Err causes.Limit
+    if nat_le 65536 (length s.changes) || not (is_change_writable Narrow change) then Err causes.Limit
     else if not (fits schema change) then Err causes.Schema
     else Ok (record s { changes = s.changes ++ change ∷ [] })
 

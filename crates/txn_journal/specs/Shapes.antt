@@ -2,7 +2,8 @@
 use Rattle.std.specs.Prelude.{◌≡◌, ℕ, Bool, true, ◌&&◌, nat_le, nat_lt, List, [], ◌∷◌, ◌++◌, length, map, Option, Some, None, Result, Ok, Err, codes, if◌then◌else◌, decimal}
 use Rattle.std.specs.List.{list_all}
 use Rattle.std.specs.Str.{bytes_eq}
-use Rattle.rows.specs.Names.{is_name}
+use Rattle.rows.specs.Names.{is_short_name}
+use Rattle.rows.specs.declared.limits.Limits.TheVariants.{Narrow}
 use Rattle.rows.specs.declared.schema.Table.{Table}
 use Rattle.rows.specs.declared.schema.TableFault.{TableFault}
 use Rattle.rows.specs.declared.schema.TableFault.TheVariants as table_faults
@@ -35,7 +36,7 @@ abbrev pub shape_text : Shape → List ℕ
 shape_text s = joined_by 32 (shape_words s)
 
 pub record FitsShape (s : Shape) : Type 0 where
-  pub name : is_name s.name ≡ true
+  pub name : is_short_name s.name ≡ true
   pub columns : is_count s.columns ≡ true
   pub primary : is_columns_text s.primary ≡ true
   pub uniques : list_all is_columns_text s.uniques ≡ true
@@ -96,7 +97,13 @@ unfoldable pub table_of : Shape → ℕ → Result Table Cause
 table_of s columns = do
   primary ← columns_in columns s.primary
   uniques ← keys_from columns [] s.uniques
-  Ok (record { name = s.name; columns = columns; primary = primary; uniques = uniques })
+  Ok (record { name = s.name; columns = columns; primary = primary; uniques = uniques; hidden = 0; limits = Narrow })
+
+-- a table that versions 1 and 2 have
+pub record FitsTable (t : Table) : Type 0 where
+  pub name : is_short_name t.name ≡ true
+  pub hidden : t.hidden ≡ 0
+  pub limits : t.limits ≡ Narrow
 
 -- the shape of a table's line
 abbrev pub shape_for : Table → Shape

@@ -1,6 +1,6 @@
 -- The one text of a journal: its lines, each ended by a line feed.
-use Rattle.std.specs.Prelude.{◌≡◌, ℕ, ◌+◌, ◌<◌, ◌≤◌, true, List, [], ◌∷◌, ◌++◌, length, map, Option, Some, None, codes, decimal}
-use Rattle.std.specs.List.{flat_map, AllByRecursion}
+use Rattle.std.specs.Prelude.{◌≡◌, ℕ, ◌+◌, ◌<◌, ◌≤◌, Bool, true, List, [], ◌∷◌, ◌++◌, length, map, Option, Some, None, codes, decimal}
+use Rattle.std.specs.List.{list_all, flat_map, AllByRecursion}
 use Rattle.gtid_text.specs.declared.Gtid.{Gtid}
 use Rattle.gtid_text.specs.Canonical.{gtid_text}
 use Rattle.gtid_text.specs.Written.{IsSource}
@@ -8,9 +8,12 @@ use Rattle.gtid_set.specs.Sets.{Gtids}
 use Rattle.row_images.specs.declared.value.Value.{Value}
 use Rattle.rows.specs.declared.change.Change.{Change}
 use Rattle.rows.specs.declared.change.Change.TheVariants.{Insert, Delete, Update}
-use Rattle.rows.specs.Names.{is_name}
+use Rattle.rows.specs.declared.limits.Limits.TheVariants.{Narrow}
+use Rattle.rows.specs.Fits.{table_of}
+use Rattle.rows.specs.Names.{is_short_name}
 use Rattle.journal.specs.declared.Entry.{Entry}
 use Rattle.journal.specs.Journals.{JournalValue, IsJournal}
+use Rattle.journal.specs.Writing.{is_writable}
 use Rattle.txn_journal.specs.WrittenSets.{set_text, IsWrittenSet}
 use Rattle.row_images.specs.Images.{values_text, AreValues}
 use Rattle.txn_journal.specs.Lines.{Numbers}
@@ -98,26 +101,43 @@ spelling j = spelling_as One (no_stamps j.entries) j
 
 -- ---- what can be written
 
--- a table's name, and values of 64 bits and bytes
+-- a table's name of versions 1 and 2, and values of 64 bits and bytes
 abbrev pub FitsChange : Change → Type 0
-FitsChange (Insert table after) = (is_name table ≡ true) × AreValues after
-FitsChange (Delete table before) = (is_name table ≡ true) × AreValues before
-FitsChange (Update table before after) = (is_name table ≡ true) × AreValues before × AreValues after
+FitsChange (Insert table after) = (is_short_name table ≡ true) × AreValues after
+FitsChange (Delete table before) = (is_short_name table ≡ true) × AreValues before
+FitsChange (Update table before after) = (is_short_name table ≡ true) × AreValues before × AreValues after
 
 pub record FitsEntry (e : Entry) : Type 0 where
   pub source : IsSource e.gtid.source
   pub changes : AllByRecursion FitsChange e.txn.changes
 
--- what a journal keeps, with no more entries than it may have, each of names, numbers and bytes
+-- what a journal keeps, with no more entries than it may have, each within the limits and of names, numbers and bytes
 pub record IsWritten (j : JournalValue) : Type 0 where
   pub keeps : IsJournal j.previous j.entries
+  pub writable : list_all (is_writable Narrow) j.entries ≡ true
   pub few : length j.entries ≤ 4294967294
   pub previous : IsWrittenSet j.previous
   pub entries : AllByRecursion FitsEntry j.entries
 
--- what a journal's type leaves open and its text asks for: no more entries than a text may have
-abbrev pub HasFewEntries : JournalValue → Type 0
-HasFewEntries j = length j.entries ≤ 4294967294
+abbrev pub has_short_names : Entry → Bool
+has_short_names e = list_all (λ c. is_short_name (table_of c)) e.txn.changes
+
+-- what a journal's type leaves open and its text by versions 1 and 2 asks for: how many entries there are, their limits and their names
+pub record FitsText (j : JournalValue) : Type 0 where
+  pub few : length j.entries ≤ 4294967294
+  pub writable : list_all (is_writable Narrow) j.entries ≡ true
+  pub named : list_all has_short_names j.entries ≡ true
+
+-- what the types of a change's values keep
+abbrev pub HasValues : Change → Type 0
+HasValues (Insert table after) = AreValues after
+HasValues (Delete table before) = AreValues before
+HasValues (Update table before after) = AreValues before × AreValues after
+
+-- what the types of an entry's parts keep
+pub record IsOfParts (e : Entry) : Type 0 where
+  pub source : IsSource e.gtid.source
+  pub values : AllByRecursion HasValues e.txn.changes
 
 -- what denotes the last_committed of the entry at a place, which in version 2 is below it
 abbrev pub IsStamp : Version → ℕ → ℕ → Type 0

@@ -1,11 +1,11 @@
 -- The words of a line.
 use Rattle.std.specs.List.{list_all}
 use Rattle.std.specs.Prelude.{◌≡◌, ◌++◌, true, not, ℕ, List, ◌∷◌, Option, Some, None, ◌==◌, if◌then◌else◌}
-use Rattle.rows.specs.Names.{is_name}
+use Rattle.rows.specs.Names.{is_short_name}
 
 -- the name that a word is
 abbrev pub name_of : List ℕ → Option (List ℕ)
-name_of word = if is_name word then Some word else None
+name_of word = if is_short_name word then Some word else None
 
 -- no line feed is among the bytes
 abbrev pub IsOneLine : List ℕ → Type 0

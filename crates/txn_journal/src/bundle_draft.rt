@@ -19,7 +19,7 @@ use journal::Entry;
 use journal_words::{set_word, source_word};
 use logical_timestamps::LastWriters;
 use row_images::cut;
-use rows::{Change, Name, Row, Rows, Schema};
+use rows::{Change, Limits, Name, Row, Rows, Schema};
 use std::alloc::{AllocError, Global};
 use std::mem;
 
@@ -336,7 +336,7 @@ impl BundleDraft {
     {
         let (table, text) = table_at(&mut self.names, alloc, rest)?;
         let row = image(alloc, text)?;
-        if !journal::is_image_writable(&row) {
+        if !journal::is_image_writable(&row, Limits::Narrow) {
             return Err(LineFault::Wrong(Cause::Limit));
         }
         self.leave_tables(alloc);

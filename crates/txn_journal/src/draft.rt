@@ -10,6 +10,7 @@ ghost use Rattle.txn_journal.specs.Due.{is_due};
 ghost use Rattle.txn_journal.specs.declared.lines.LinePlace.TheVariants.{Between, Within};
 ghost use Rattle.txn_journal.specs.declared.lines.Keyword.TheVariants.{Ins, Upd, Del};
 ghost use Rattle.txn_journal.specs.declared.fault.Cause.{Cause};
+ghost use Rattle.rows.specs.declared.limits.Limits.TheVariants.{Narrow};
 
 use crate::fault::{Cause, LineFault};
 use crate::images::{find_image, find_images, find_table, image, table_at, two_images};
@@ -22,7 +23,7 @@ use gtid_text::{Gtid, SourceId};
 use journal::{Entry, Journal, is_change_writable, is_number};
 use journal_words::set_word;
 use row_images::{cut, is_count};
-use rows::{Change, Changes, Name, Row, Schema, Table, Transaction, has_null_at};
+use rows::{Change, Changes, Limits, Name, Row, Schema, Table, Transaction, has_null_at};
 use std::alloc::{AllocError, Global};
 use std::mem;
 
@@ -391,7 +392,7 @@ impl Draft {
         ensures line { TakesLine IsFull result (add (option_map (λ tables. tables.now) schema.entry) (standing self.old) change) (standing self.new) }
         ensures journal { (standing self.new).journal ≡ (standing self.old).journal }
     {
-        if self.changes.len() >= MAX_CHANGES || !is_change_writable(&change) {
+        if self.changes.len() >= MAX_CHANGES || !is_change_writable(&change, Limits::Narrow) {
             return Err(LineFault::Wrong(Cause::Limit));
         }
         if !fits(schema, &change) {
@@ -484,7 +485,7 @@ impl Draft {
     pub fn take_entry(&mut self, alloc: Global) -> Result<Entry, AllocError>
         requires { (standing self.old).place ≡ Within }
         ensures entry { IfOk result (λ entry. entry ≡ open_entry (standing self.old)) }
-        ensures writable { IfOk result (λ entry. is_writable entry ≡ true) }
+        ensures writable { IfOk result (λ entry. is_writable Narrow entry ≡ true) }
         ensures left { standing self.new ≡ record (standing self.old) { changes = [] } }
     {
         let changes = self.take_changes(alloc)?;
@@ -494,11 +495,12 @@ impl Draft {
         })
     }
 
+    #[tactic(auto, using(journal::proofs::WritableLemmas::widened))]
     /// An entry with the GTID of the one that is open joins the others.
     pub fn join(&mut self, entry: Entry) -> Result<(), LineFault>
         requires place { (standing self.old).place ≡ Within }
         requires gtid { entry.gtid ≡ (standing self.old).gtid }
-        requires writable { is_writable entry ≡ true }
+        requires writable { is_writable Narrow entry ≡ true }
         requires taken { (standing self.old).changes ≡ [] }
         ensures line { TakesLine IsFull result (Ok (join_entry (standing self.old) entry)) (standing self.new) }
         ensures room { IsRefusedWhereFull IsFull result (Ok (join_entry (standing self.old) entry)) }
@@ -542,7 +544,7 @@ impl Draft {
         ensures place { self.new.place ≡ self.old.place }
         ensures left { result ≡ false → standing self.new ≡ standing self.old }
     {
-        if self.changes.len() >= MAX_CHANGES || !is_change_writable(&change) {
+        if self.changes.len() >= MAX_CHANGES || !is_change_writable(&change, Limits::Narrow) {
             return false;
         }
         if !fits(Some(schema), &change) {

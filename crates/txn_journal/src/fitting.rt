@@ -1,31 +1,28 @@
-//! What the types of a journal's parts keep: its names, numbers and bytes are those of the grammar.
+//! What the types of a journal's parts keep: its numbers and bytes are those of the grammar.
 //!
 //! The functions do nothing; a proof calls them for their contracts.
 ghost use Rattle.std.specs.List.{AllByRecursion};
-ghost use Rattle.txn_journal.specs.Spelling.{FitsChange, FitsEntry, HasFewEntries, IsWritten};
+ghost use Rattle.txn_journal.specs.Spelling.{HasValues, IsOfParts, FitsText, IsWritten};
 
 use journal::{Entry, Journal};
 use rows::Change;
 
-/// A change has a table's name, and its images have numbers of 64 bits and bytes.
+/// The images of a change have numbers of 64 bits and bytes.
 fn change_fits(change: &Change)
-    ensures { FitsChange change.now }
+    ensures { HasValues change.now }
 {
     match change {
-        Change::Insert { table, after } => {
-            let _table = table.as_str();
+        Change::Insert { table: _, after } => {
             after.keeps_rules();
         }
-        Change::Delete { table, before } => {
-            let _table = table.as_str();
+        Change::Delete { table: _, before } => {
             before.keeps_rules();
         }
         Change::Update {
-            table,
+            table: _,
             before,
             after,
         } => {
-            let _table = table.as_str();
             before.keeps_rules();
             after.keeps_rules();
         }
@@ -33,7 +30,7 @@ fn change_fits(change: &Change)
 }
 
 fn changes_fit(changes: &[Change])
-    ensures { AllByRecursion FitsChange changes.now }
+    ensures { AllByRecursion HasValues changes.now }
 {
     for change in changes {
         change_fits(change);
@@ -42,24 +39,24 @@ fn changes_fit(changes: &[Change])
 
 /// An entry has a source of 128 bits, and such changes.
 fn entry_fits(entry: &Entry)
-    ensures { FitsEntry entry.now }
+    ensures { IsOfParts entry.now }
 {
     let _bits = entry.gtid.source.bits();
     changes_fit(entry.txn.changes.as_slice());
 }
 
 fn entries_fit(entries: &[Entry])
-    ensures { AllByRecursion FitsEntry entries.now }
+    ensures { AllByRecursion IsOfParts entries.now }
 {
     for entry in entries {
         entry_fits(entry);
     }
 }
 
-/// A journal's type keeps all that its text needs, but for how many entries there are.
+/// A journal's type keeps all that its text needs, but for how many entries there are, their limits and their names.
 #[tactic(auto, using(crate::proofs::WrittenLaws::few_written))]
 pub(crate) fn journal_fits(journal: &Journal)
-    ensures { HasFewEntries journal.now → IsWritten journal.now }
+    ensures { FitsText journal.now → IsWritten journal.now }
 {
     journal.keeps_rules();
     journal.previous().keeps_sources();

@@ -14,8 +14,9 @@
 //! memory there is, if it is the first of its piece and not the end of an entry in a bundle of version 2 (`room` of `feed`).
 //!
 //! What is written is a text of its value by the grammar (`writes`). For a bundle this always holds: its type keeps what the grammar
-//! requires (`Bundle::keeps_rules`). For a journal it holds if it has at most `MAX_ENTRIES` entries, the one limit of a text that the type
-//! `Journal` doesn't keep. What was read has no more, nor have a bundle's journals (`IsWritten`).
+//! requires (`Bundle::keeps_rules`). For a journal it holds if it has no more than a text of versions 1 and 2 may have (`FitsText`: how many
+//! entries, their limits and the names of their tables), for the type `Journal` takes more. What was read has no more, nor have a bundle's
+//! journals (`IsWritten`).
 //!
 //! One theory serves journals and bundles: a record `Format` has the content of lines, the judge of lines and the last line, and both
 //! formats are values of it (`specs/Formats`). Version 2 is another judge and no other theory.

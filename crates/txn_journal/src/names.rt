@@ -1,17 +1,36 @@
 //! Names, each allocated once.
-ghost use Rattle.std.specs.Prelude.{◌≡◌, ◌<◌, ◌≤◌, Some, IfOk, IfErr, IfSome, length};
+ghost use Rattle.std.specs.Prelude.{◌≡◌, ◌<◌, ◌≤◌, true, Some, IfOk, IfErr, IfSome, length};
+ghost use Rattle.rows.specs.Names.{is_short_name};
 ghost use Rattle.txn_journal.specs.Words.{name_of};
 
 use rows::{Name, NameFault};
 use std::alloc::{AllocError, Global};
+use std::marker::Model;
 
 /// How many names are kept: as many as a schema may have tables.
 const KEPT: usize = 256;
 
+/// A name of versions 1 and 2.
+#[derive(Drop)]
+struct ShortName {
+    name: Name,
+}
+
+impl Model for ShortName {
+    ghost use Rattle.std.specs.Prelude.{◌≡◌, ℕ, true, List};
+    ghost use Rattle.rows.specs.Names.{is_short_name};
+
+    ghost Value = { List ℕ };
+
+    ghost view = { λ n. n.name };
+
+    ghost invariant = { λ n. is_short_name n.name ≡ true };
+}
+
 /// Names that were read, in order. A name that is kept is shared, and not allocated again.
 #[derive(Drop)]
 pub struct Names {
-    kept: Vec<Name>,
+    kept: Vec<ShortName>,
     /// The place of the name that was read last: a guess.
     last: usize,
 }
@@ -22,25 +41,25 @@ fn new_name(alloc: Global, word: &[u8]) -> Result<Option<Name>, AllocError>
     let Ok(text) = std::str::from_utf8(word) else {
         return Ok(None);
     };
-    match Name::new(String::from_str(alloc, text)?) {
+    match Name::short(String::from_str(alloc, text)?) {
         Ok(name) => Ok(Some(name)),
         Err(NameFault::NotAName) => Ok(None),
         Err(NameFault::Memory) => Err(AllocError),
     }
 }
 
-fn place_of(names: &[Name], word: &[u8]) -> Result<usize, usize>
+fn place_of(names: &[ShortName], word: &[u8]) -> Result<usize, usize>
     ensures found { IfOk result (λ i. i < length names.now) }
     ensures place { IfErr result (λ i. i ≤ length names.now) }
 {
-    names.binary_search_by(|name| name.as_str().as_bytes().cmp(word))
+    names.binary_search_by(|kept| kept.name.as_str().as_bytes().cmp(word))
 }
 
 /// The name at a place, if the word is that name.
-fn name_at<'a>(names: &'a [Name], place: usize, word: &[u8]) -> Option<&'a Name>
+fn name_at<'a>(names: &'a [ShortName], place: usize, word: &[u8]) -> Option<&'a Name>
     ensures { IfSome result (λ name. name_of word.now ≡ Some name.now) }
 {
-    let name = names.get(place)?;
+    let name = &names.get(place)?.name;
     if name.as_str().as_bytes() == word {
         Some(name)
     } else {
@@ -82,9 +101,11 @@ impl Names {
         }
     }
 
-    fn keep(&mut self, place: usize, name: Name) -> Result<(), AllocError> {
+    fn keep(&mut self, place: usize, name: Name) -> Result<(), AllocError>
+        requires { is_short_name name ≡ true }
+    {
         if self.kept.len() < KEPT && place <= self.kept.len() {
-            self.kept.insert(place, name)?;
+            self.kept.insert(place, ShortName { name })?;
         }
         Ok(())
     }

@@ -14,7 +14,7 @@ use crate::names::Names;
 use crate::numbers::{NearSources, gtid_in};
 use gtid_text::Gtid;
 use journal::is_change_writable;
-use rows::{Change, Changes};
+use rows::{Change, Changes, Limits};
 use std::alloc::{AllocError, Global};
 use std::collections::VecDeque;
 use std::marker::Model;
@@ -160,7 +160,7 @@ fn changes_at<'a>(
         let Ok(change) = read_change(names, alloc, line) else {
             return None;
         };
-        if changes.len() >= MAX_CHANGES || !is_change_writable(&change) {
+        if changes.len() >= MAX_CHANGES || !is_change_writable(&change, Limits::Narrow) {
             return None;
         }
         let Ok(()) = changes.push(change) else {

@@ -14,7 +14,7 @@ use crate::fault::{Cause, LineFault};
 use crate::names::Names;
 use gtid_set::SetFault;
 use row_images::{count, is_count};
-use rows::{ColumnLists, Columns, Name, Schema, SchemaFault, Table, TableFault};
+use rows::{ColumnLists, Columns, Limits, Name, Schema, SchemaFault, Table, TableFault};
 use std::alloc::{AllocError, Global};
 use std::collections::BTreeSet;
 
@@ -248,6 +248,8 @@ impl TableWords<'_> {
             columns: columns as u32,
             primary,
             uniques,
+            hidden: 0,
+            limits: Limits::Narrow,
         })
     }
 }

@@ -2,7 +2,7 @@
 ghost use Rattle.std.specs.Prelude.{◌≡◌, ◌∷◌, ◌++◌, None, IfOk, OnOk, length, decimal};
 ghost use Rattle.std.specs.String.{string_bytes};
 ghost use Rattle.txn_journal.specs.WrittenSets.{set_text};
-ghost use Rattle.txn_journal.specs.Spelling.{Header, Previous, Begin, Makes, image_text, change_text, numbers_text, line_text, ended_line, lines_text, numbers_of, entry_lines, spelling, spelling_as, HasFewEntries, Writes};
+ghost use Rattle.txn_journal.specs.Spelling.{Header, Previous, Begin, Makes, image_text, change_text, numbers_text, line_text, ended_line, lines_text, numbers_of, entry_lines, spelling, spelling_as, FitsText, Writes};
 ghost use Rattle.row_images.specs.Images.{values_text};
 ghost use Rattle.txn_journal.specs.Stamps.{right_stamps};
 ghost use Rattle.txn_journal.specs.Timestamped.{WritesTimestamped, with_timestamps};
@@ -254,8 +254,8 @@ fn write_journal(alloc: Global, journal: &Journal) -> Result<String, AllocError>
 /// The one text of a journal by version 1 of the format: its lines, each ended by one line feed.
 pub fn encode(alloc: Global, journal: &Journal) -> Result<Vec<u8>, AllocError>
     ensures spelled { IfOk result (λ bytes. bytes.items ≡ spelling journal.now) }
-    // It is a text by the grammar, and read back as this journal, if there are at most `MAX_ENTRIES` entries.
-    ensures writes { HasFewEntries journal.now → IfOk result (λ bytes. Writes bytes.items journal.now) }
+    // It is a text by the grammar, and read back as this journal, if it has no more than a text may have.
+    ensures writes { FitsText journal.now → IfOk result (λ bytes. Writes bytes.items journal.now) }
 {
     journal_fits(journal);
     let text = write_journal(alloc, journal)?;
@@ -294,8 +294,8 @@ pub(crate) fn write_journal_v2(
 /// its last_committed and its sequence number.
 pub fn encode_v2(alloc: Global, schema: &Schema, journal: &Journal) -> Result<Vec<u8>, AllocError>
     ensures spelled { IfOk result (λ bytes. bytes.items ≡ spelling_as Two (right_stamps Two schema.now journal.now.entries) journal.now) }
-    // It is a text by the grammar, and read back as this journal with these numbers, if there are at most `MAX_ENTRIES` entries.
-    ensures writes { HasFewEntries journal.now → IfOk result (λ b. WritesTimestamped b.items (with_timestamps schema.now journal.now)) }
+    // It is a text by the grammar, and read back as this journal with these numbers, if it has no more than a text may have.
+    ensures writes { FitsText journal.now → IfOk result (λ b. WritesTimestamped b.items (with_timestamps schema.now journal.now)) }
 {
     journal_fits(journal);
     let mut out = String::new(alloc);

@@ -5,7 +5,8 @@ use gtid_text::{Gtid, SourceId};
 use journal::{Entry, Journal};
 use logical_timestamps::last_committed_of;
 use rows::{
-    ByteString, Change, Changes, ColumnLists, Columns, Name, Row, Schema, Table, Transaction, Value,
+    ByteString, Change, Changes, ColumnLists, Columns, Limits, Name, Row, Schema, Table,
+    Transaction, Value,
 };
 use std::alloc::{AllocError, Global};
 use std::test::Fail;
@@ -46,6 +47,8 @@ fn table(alloc: Global) -> Option<Table> {
         columns: 2,
         primary,
         uniques,
+        hidden: 0,
+        limits: Limits::Narrow,
     })
 }
 
@@ -96,7 +99,7 @@ fn transaction(alloc: Global, before: Option<Keys>, after: Option<Keys>) -> Opti
 }
 
 fn push(journal: &mut Journal, entry: Entry) -> Option<()> {
-    if journal.contains(&entry.gtid) || !entry.is_writable() {
+    if journal.contains(&entry.gtid) || !entry.is_writable(Limits::Wide) {
         return None;
     }
     journal.push(entry).ok()

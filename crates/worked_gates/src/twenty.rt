@@ -5,7 +5,7 @@ ghost use Rattle.replica_core.specs.Machine.{is_numbered};
 use gtid_text::{Gtid, SourceId};
 use journal::Entry;
 use replica_core::{Core, Event};
-use rows::{Changes, Name, Rows, Schema, Transaction};
+use rows::{Changes, Limits, Name, Rows, Schema, Transaction};
 use std::alloc::Global;
 use std::test::Fail;
 
@@ -35,7 +35,7 @@ fn receive_empty(alloc: Global, core: &mut Core, number: u64) -> Result<(), Fail
         gtid: Gtid { source, number },
         txn: Transaction { changes },
     };
-    if !entry.is_writable() {
+    if !entry.is_writable(Limits::Wide) {
         return Err(Fail::from("not writable"));
     }
     make(alloc, core, &Event::Receive(0, entry))

@@ -18,6 +18,7 @@ use Rattle.rows.specs.Conflicts.{conflicts, conflict_is_sharing, conflicts_at, c
 use Rattle.gtid_text.specs.declared.Gtid.{Gtid}
 use Rattle.gtid_set.specs.Sets.{Gtids, greatest}
 use Rattle.journal.specs.declared.Entry.{Entry}
+use Rattle.rows.specs.declared.limits.Limits.TheVariants.{Wide}
 use Rattle.journal.specs.Writing.{is_writable, is_number, is_txn_writable}
 use Rattle.journal.specs.Journals.{JournalValue, IsJournal}
 use Rattle.history.specs.Sources.{World, content, is_opened, of_source, entries_in, apply_all, rows_of, HasNumber, AreKeysSound, IsClosedBySource, in_order}
@@ -92,17 +93,17 @@ pub one_and : (m : ℕ) → 0 < m → 1 + (m - 1) ≡ m
 one_and m h = omega arith
 
 -- an entry that can be written has a number from 1 on
-pub numbered : (es : List Entry) (i : ℕ) (e : Entry) → list_all is_writable es ≡ true → slice_get es i ≡ Some e → 0 < e.gtid.number
+pub numbered : (es : List Entry) (i : ℕ) (e : Entry) → list_all (is_writable Wide) es ≡ true → slice_get es i ≡ Some e → 0 < e.gtid.number
 numbered [] i e h at = none_some e at
 numbered (x ∷ es) zero e h at =
-    let a = and_parts (is_writable x) (list_all is_writable es) h in
-    let b = and_parts (is_number x.gtid.number) (is_txn_writable x.txn) a.0 in
+    let a = and_parts (is_writable Wide x) (list_all (is_writable Wide) es) h in
+    let b = and_parts (is_number x.gtid.number) (is_txn_writable Wide x.txn) a.0 in
     let c = and_parts (nat_le 1 x.gtid.number) (nat_le x.gtid.number greatest) b.0 in
     subst (λ (y : Entry). 0 < y.gtid.number) (same_Some x e at) (from_test x.gtid.number c.0)
   where
     from_test : (n : ℕ) → nat_le 1 n ≡ true → 0 < n
     from_test n t = grind arith
-numbered (x ∷ es) (suc i) e h at = numbered es i e (and_parts (is_writable x) (list_all is_writable es) h).1 at
+numbered (x ∷ es) (suc i) e h at = numbered es i e (and_parts (is_writable Wide x) (list_all (is_writable Wide) es) h).1 at
 
 -- two that touch no common key don't conflict: the audit looks for keys alone
 pub no_conflict_from : (schema : List Table) (t u : Transaction) → AreApart schema t u → conflicts schema t u ≡ false

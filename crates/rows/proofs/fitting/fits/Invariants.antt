@@ -5,5 +5,5 @@ use Rattle.rows.proofs.fitting.fits.Given as goal
 abbrev pub invariant-loop-n : goal.invariant-loop-n
 invariant-loop-n l = record {
   rest : misfit_from l.schema l.n (drop l.n l.txn.changes) ≡ misfit l.schema l.txn;
-  few : l.n ≤ 65536;
+  few : l.n ≤ 4294967294;
 }

@@ -1,5 +1,6 @@
 use Rattle.std.proofs.Common.{rules, ◌≡◌, ◌<◌, ◌++◌, ◌∷◌, ◌∙◌, [], true, List, length, ap, sym, subst}
 use Rattle.rows.specs.declared.change.Change.{Change}
+use Rattle.rows.specs.declared.limits.Limits.TheVariants.{Narrow}
 use Rattle.txn_journal.specs.EntryLines.{AreChangeLines}
 use Rattle.txn_journal.proofs.EntryTexts.{ended_more, one_change_more, writable_more}
 use Rattle.journal.specs.Writing.{is_change_writable}
@@ -14,10 +15,10 @@ lines-preserved c =
     let cut = c.in_ok-line.ensures.found in
     let pushed : c.push.new.self.items ≡ c.lines.changes.items ++ c.in-Ok.change ∷ [] = c.in-Ok-push.ensures.items in
     let few : length c.lines.changes.items < 65536 = search rules in
-    let writes : is_change_writable c.in-Ok.change ≡ true = search rules in
+    let writes : is_change_writable Narrow c.in-Ok.change ≡ true = search rules in
     record {
       within = h.within ++ line ∷ [];
       so_far = ended_more h.within line c.args.text.now c.lines.left.now c.in_ok-line.after.now h.so_far cut.parts;
       lines = subst (λ (cs : List Change). AreChangeLines (h.within ++ line ∷ []) cs) (sym pushed) (one_change_more h.within c.lines.changes.items line c.in-Ok.change h.lines cut.whole c.in-Ok.ensures);
-      writable = ap (λ (cs : List Change). nat_le (length cs) 65536 && list_all is_change_writable cs) pushed ∙ writable_more c.lines.changes.items c.in-Ok.change h.writable few writes;
+      writable = ap (λ (cs : List Change). nat_le (length cs) 65536 && list_all (is_change_writable Narrow) cs) pushed ∙ writable_more c.lines.changes.items c.in-Ok.change h.writable few writes;
     }

@@ -1,6 +1,8 @@
-use Rattle.std.proofs.Common.{◌≡◌, ◌≤◌, ◌+◌, ℕ, false, sym, ◌∙◌, arith}
+use Rattle.std.proofs.Common.{rules, ◌≡◌, ◌≤◌, ◌+◌, ℕ, false, sym, ◌∙◌, arith}
 use Rattle.std.specs.Prelude.{nat_le}
 use Rattle.txn_journal.proofs.Seen.{seen_pushed, seen_more}
+use Rattle.journal.specs.declared.Entry.{Entry}
+use Rattle.journal.proofs.WritableLemmas.{widened}
 use Rattle.txn_journal.proofs.draft.Draft.join_whole.Goals as goal
 
 pub invariant_of-self-in-Break-1 : goal.invariant_of-self-in-Break-1
@@ -35,3 +37,8 @@ invariant_of-self-2 c =
   where
     below : (n : ℕ) → nat_le 4294967294 n ≡ false → n + 1 ≤ 4294967294
     below n e = grind arith
+
+pub push-requires-clause-writable : goal.push-requires-clause-writable
+push-requires-clause-writable c =
+    let entry : Entry = record { gtid = c.args.gtid; txn = record { changes = c.args.changes } } in
+    widened entry (search rules)

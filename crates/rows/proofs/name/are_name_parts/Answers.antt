@@ -1,0 +1,11 @@
+use Rattle.std.proofs.Common.{rules, tests, ◌==◌}
+use Rattle.std.proofs.lemmas.Iterator.Search.{all_from_yields_List}
+use Rattle.std.proofs.lemmas.Iterator.Splits.{YieldsList-from_slice_split}
+use Rattle.rows.specs.Names.{is_name_part}
+use Rattle.rows.proofs.name.are_name_parts.Goals as goal
+
+pub returns : goal.returns
+returns c =
+    all_from_yields_List is_name_part _ _ _ c.all.ensures.ran
+    (YieldsList-from_slice_split _ (λ b. b == 46) c.args.text.now c.split.ensures.rest c.split.ensures.done c.split.ensures.closure (λ x b q h. search rules))
+    (λ x b q k. search (rules, tests))
