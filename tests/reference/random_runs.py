@@ -12,7 +12,7 @@ from dataclasses import dataclass
 from random import Random
 
 from . import commands, random_scripts, scripts
-from .formats import VERSIONS, Journal, bundle_lines, journal_lines, read_bundle
+from .formats import VERSION_3, VERSIONS, Journal, bundle_lines, journal_lines, read_bundle
 from .gtids import GtidSet
 from .histories import objection
 from .ordered import Failovers, OrderedAudit, is_borne_out
@@ -145,7 +145,8 @@ def version3(chance: Random) -> list[Run]:
     text = text_of(bundle_lines(Widener(chance).bundle(narrow), 3))
     if maker.is_one_in(3):
         text = TextBreaker(chance).texts(text)
-    return gtidrep(text, "audit", "audit --all", "audit --ordered", apply_words(chance), f"apply --ordered --workers {chance.choice([1, 2])}", "upgrade --to 3")
+    upgrade_words = ["upgrade --to 3"] if VERSION_3.references else ["upgrade"]
+    return gtidrep(text, "audit", "audit --all", "audit --ordered", apply_words(chance), f"apply --ordered --workers {chance.choice([1, 2])}", *upgrade_words)
 
 
 def upgrade(chance: Random) -> list[Run]:
@@ -318,6 +319,7 @@ def states(chance: Random) -> list[Run]:
 
 COMMAND_KINDS: dict[str, Callable[[Random], list[Run]]] = {
     "version2": version2,
+    "version3": version3,
     "stamps": stamps,
     "positions": positions,
     "texts": texts,
@@ -329,8 +331,6 @@ COMMAND_KINDS: dict[str, Callable[[Random], list[Run]]] = {
     "imports": imports,
     "histories": histories,
 }
-if "3" in VERSIONS:
-    COMMAND_KINDS["version3"] = version3
 SCRIPT_KINDS: dict[str, Callable[[Random], Made]] = {"scripts": random_scripts.one_replica, "networks": random_scripts.network}
 KINDS = [*SCRIPT_KINDS, *COMMAND_KINDS]
 

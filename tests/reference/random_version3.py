@@ -8,6 +8,7 @@ from random import Random
 from .formats import Bundle, Channel, Entry, Journal, assumption_order
 from .gtids import GtidSet
 from .rows import Change, Rows, Schema, Table
+from .versions import VERSION_3
 
 NAMES = [
     *("shop.product", "shop.orders", "Shop.product", "d%60b.T%c3%a4g", "-.$", "2024_log", "null", "pk", "hidden", "a.b.c", "A", "a", "_"),
@@ -35,10 +36,10 @@ class Widener:
         for key, row in narrow.rows.carriers.items():
             if key.index == 0:
                 wide.rows.put(names[key.table], row)
-        wide.references = self.references(wide.schema)
+        wide.references = self.references(wide.schema) if VERSION_3.references else []
         channels = self.chance.sample(NAMES, len(narrow.channels))
         wide.channels = [self.channel(it, name, names) for it, name in zip(narrow.channels, channels)]
-        wide.assumptions = self.assumptions(wide)
+        wide.assumptions = self.assumptions(wide) if VERSION_3.assumptions else []
         return wide
 
     def table(self, table: Table, name: str) -> Table:
@@ -56,7 +57,7 @@ class Widener:
 
     def place(self) -> str:
         """What a `place` line says, or nothing."""
-        if self.chance.randrange(3):
+        if not VERSION_3.has_places or self.chance.randrange(3):
             return ""
         return f"{self.chance.choice(FILES)} {self.chance.choice([4, 195, 2**63 - 1])} {self.chance.choice(TIMES)} {self.chance.choice([0, 1, 2**63 - 1])}"
 

@@ -4,7 +4,7 @@ from __future__ import annotations
 from collections.abc import Callable
 from dataclasses import dataclass, field
 
-from .formats import COUNT_FORM, FORMATS, VERSIONS, Format, JournalDraft, LineFault, put_row, reference_in, table_in, take_line
+from .formats import COUNT_FORM, FORMATS, VERSION_3, Format, JournalDraft, LineFault, put_row, reference_in, table_in, take_line
 from .gtids import UUID_FORM, Gtid, GtidSet, SourcesFull, gtid_in, set_in
 from .network import NO_NODE, Network
 from .replica import Replica, Reply
@@ -108,7 +108,7 @@ class Script:
         words, rows, form, declared = body.split(" "), self.declared.rows, self.declared.form, self.declared.words
         if not blank:
             raise BadLine
-        if line == "version 3" and not declared and "3" in VERSIONS:
+        if line == "version 3" and not declared and VERSION_3.references:
             self.declared.form = FORMATS["3"]
             rows.schema.most_bytes = self.declared.form.most_bytes
         elif word == "table" and declared[-1:] in ([], ["version"], ["table"]):

@@ -5,7 +5,7 @@ from __future__ import annotations
 import os
 import re
 from collections.abc import Callable
-from dataclasses import dataclass
+from dataclasses import dataclass, replace
 
 from .rows import MOST_BYTES
 
@@ -49,6 +49,8 @@ class Format:
 
 
 VERSION_3 = Format("3", is_name, 65_536, 4_096, 64, 2**32 - 2, 2**32 - 1, 65_536, 65_536, has_places=True, has_hidden=True)
+# (the programs don't read lines of foreign keys, places and assumptions yet, so they are read here only where this variable is set)
+if not os.environ.get("REFERENCE_VERSION_3"):
+    VERSION_3 = replace(VERSION_3, references=0, assumptions=0, has_places=False)
 FORMATS = {it.version: it for it in (Format("1", has_opening=False, has_stamps=False), Format("2"), VERSION_3)}
-# (the programs don't read version 3 yet, so it is read here only where this variable is set)
-VERSIONS = {it for it in FORMATS if it < "3" or os.environ.get("REFERENCE_VERSION_3")}
+VERSIONS = set(FORMATS)

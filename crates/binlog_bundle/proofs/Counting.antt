@@ -25,7 +25,7 @@ use Rattle.txn_journal.specs.declared.bundle_draft.Part.{Part}
 use Rattle.txn_journal.specs.declared.bundle_draft.Part.TheVariants as parts
 use Rattle.txn_journal.specs.declared.fault.Cause.{Cause}
 use Rattle.txn_journal.specs.declared.lines.Version.{Version}
-use Rattle.txn_journal.specs.declared.lines.Version.TheVariants.{One, Two}
+use Rattle.txn_journal.specs.declared.lines.Version.TheVariants.{One, Two, Three}
 use Rattle.txn_journal.proofs.FormatLaws.{OneMore, runs}
 use Rattle.txn_journal.proofs.BundleLaws.{reads_bundle, IsSoundBundle, bundle_laws}
 use Rattle.txn_journal.proofs.Judged.{bind_ok, ok_is}
@@ -202,6 +202,7 @@ opened_rows (r ∷ rs) = ap (λ (k : ℕ). 0 + k) (opened_rows rs)
 opened_opening : (version : Version) (s : Gtids) → opened (opening_set_lines version s) ≡ 0
 opened_opening One s = refl
 opened_opening Two s = refl
+opened_opening Three s = refl
 
 opened_start : (version : Version) (rows : List TableRow) (b : BundleValue) → opened (start_lines version rows b) ≡ 0
 opened_start version rows b =

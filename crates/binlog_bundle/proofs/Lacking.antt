@@ -7,6 +7,7 @@ use Rattle.lemmas.proofs.SameGtid.{gtid_total}
 use Rattle.gtid_set.specs.Sets.{Gtids}
 use Rattle.gtid_set.specs.declared.fault.SetFault.{SetFault}
 use Rattle.gtid_set.specs.declared.fault.SetFault.TheVariants.{Memory, PoolFull, SourcesFull}
+use Rattle.rows.specs.declared.limits.Limits.{Limits}
 use Rattle.rows.specs.declared.schema.Table.{Table}
 use Rattle.journal.specs.Journals.{JournalValue, gtids_of, whole, previous_after_purge}
 use Rattle.txn_journal.specs.BundleStates.{BundleValue}
@@ -87,12 +88,12 @@ module _ (b : BundleValue) (said : List (Option Gtids)) (place : ℕ) (executed 
 pub within_all : (b : BundleValue) (said : List (Option Gtids)) (n : ℕ) → length said ≤ n → ((k : ℕ) → k < n → IsWithinAt b said k) → AreWithin b said
 within_all b said n le each k executed journal says brings = each k (omega (arith, slice_get_within said k (Some executed) says)) executed journal says brings
 
-channel_there : (tables : List Table) (cs : List BundleChannel) (js : List JournalValue) (n : ℕ) → AreBrought tables cs js → is_some (slice_get js n) ≡ true → None ≡ slice_get cs n → ⊥
-channel_there tables [] [] n h is none = cc
-channel_there tables (c ∷ cs) (k ∷ js) zero h is none = cc
-channel_there tables (c ∷ cs) (k ∷ js) (suc n) h is none = channel_there tables cs js n h.1 is none
-channel_there tables [] (k ∷ js) n h is none = absurd h
-channel_there tables (c ∷ cs) [] n h is none = absurd h
+channel_there : (limits : Limits) (tables : List Table) (cs : List BundleChannel) (js : List JournalValue) (n : ℕ) → AreBrought limits tables cs js → is_some (slice_get js n) ≡ true → None ≡ slice_get cs n → ⊥
+channel_there limits tables [] [] n h is none = cc
+channel_there limits tables (c ∷ cs) (k ∷ js) zero h is none = cc
+channel_there limits tables (c ∷ cs) (k ∷ js) (suc n) h is none = channel_there limits tables cs js n h.1 is none
+channel_there limits tables [] (k ∷ js) n h is none = absurd h
+channel_there limits tables (c ∷ cs) [] n h is none = absurd h
 
-pub not_there : (tables : List Table) (cs shown : List BundleChannel) (js : List JournalValue) (n : ℕ) → AreBrought tables cs js → shown ≡ cs → is_some (slice_get js n) ≡ true → None ≡ slice_get shown n → ⊥
-not_there tables cs shown js n h e is none = channel_there tables cs js n h is (none ∙ ap (λ (xs : List BundleChannel). slice_get xs n) e)
+pub not_there : (limits : Limits) (tables : List Table) (cs shown : List BundleChannel) (js : List JournalValue) (n : ℕ) → AreBrought limits tables cs js → shown ≡ cs → is_some (slice_get js n) ≡ true → None ≡ slice_get shown n → ⊥
+not_there limits tables cs shown js n h e is none = channel_there limits tables cs js n h is (none ∙ ap (λ (xs : List BundleChannel). slice_get xs n) e)

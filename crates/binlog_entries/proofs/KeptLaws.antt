@@ -2,6 +2,7 @@
 use Rattle.std.proofs.Common.{◌≡◌, ℕ, Bool, true, false, cond, List, [], ◌∷◌, Option, Some, None, Ok, Err, refl, sym, ap, ◌∙◌, subst, length}
 use Rattle.std.specs.FinSet as set
 use Rattle.journal_words.specs.Gtids.{set_of_word, gtid_of_word}
+use Rattle.rows.specs.declared.limits.Limits.TheVariants.{Narrow}
 use Rattle.txn_journal.specs.Words.{name_of}
 use Rattle.binlog_text.specs.Types.{parse_type}
 use Rattle.binlog_text.specs.declared.lines.LogEvent.{LogEvent}
@@ -153,7 +154,7 @@ unfolding table_line
 table_stays s t database table h =
     let a = unless_not (is_begun s.stage) refusals.Transaction _ t h in
     let b = unless_not (may_be_database database s.database) refusals.Table _ t a.1 in
-    let m = mapped_is s t database (name_of table) b.1 in
+    let m = mapped_is s t database (name_of Narrow table) b.1 in
     subst (Stay s) m.2 refl
 
 column_varies : (s t : Standing) (c : Column) → column_line s c ≡ Ok t → kept t ≡ (varied_behind s.varied s.mapping c.column_type, (s.previous, s.is_fresh), (s.file, s.come), s.is_open)

@@ -4,6 +4,7 @@ use Rattle.lemmas.proofs.Tests.{never}
 use Rattle.gtid_set.specs.Sets.{Gtids}
 use Rattle.journal_words.specs.Gtids.{set_of_word}
 use Rattle.rows.specs.Names.{is_short_name}
+use Rattle.rows.specs.declared.limits.Limits.TheVariants.{Narrow}
 use Rattle.txn_journal.specs.Words.{name_of}
 use Rattle.binlog_text.specs.declared.types.ColumnType.{ColumnType}
 use Rattle.binlog_text.specs.Types.{parse_type}
@@ -121,7 +122,7 @@ unfolding table_line
 table_law s t database table sound at h =
     let a = unless_not (is_begun s.stage) refusals.Transaction _ t h in
     let b = unless_not (may_be_database database s.database) refusals.Table _ t a.1 in
-    let m = mapped_is s t database (name_of table) b.1 in
+    let m = mapped_is s t database (name_of Narrow table) b.1 in
     let name = named_is (is_short_name table) table m.0 m.1 in
     let outside = (tablemap_quiet s.body at).0 in
     subst (λ (u : Standing). Tells s (OfTable database table) (record u { body = bodies.TableMap })) m.2 (record {

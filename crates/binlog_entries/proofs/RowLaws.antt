@@ -10,6 +10,7 @@ use Rattle.gtid_text.specs.declared.Gtid.{Gtid}
 use Rattle.row_images.specs.declared.value.Value.{Value}
 use Rattle.rows.specs.declared.change.Change.{Change}
 use Rattle.rows.specs.Names.{is_short_name}
+use Rattle.rows.specs.declared.limits.Limits.TheVariants.{Narrow}
 use Rattle.txn_journal.specs.Words.{name_of}
 use Rattle.binlog_text.specs.declared.types.ColumnType.{ColumnType}
 use Rattle.binlog_text.specs.Values.{value_at}
@@ -212,7 +213,7 @@ named_is true word name e = same_Some _ _ e
 named_is false word name e = absurd cc
 
 pub known_is : (table : List ℕ) (tables : List Table) (name : List ℕ) → known_name table tables ≡ Some name → table ≡ name
-known_is table tables name e = elim (chosen (is_some (find_table table tables)) (name_of table) None (Some name) e) [
+known_is table tables name e = elim (chosen (is_some (find_table table tables)) (name_of Narrow table) None (Some name) e) [
   | inl p ↦ named_is (is_short_name table) table name p.1
   | inr p ↦ absurd cc
 ]

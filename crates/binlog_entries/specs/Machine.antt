@@ -12,6 +12,7 @@ use Rattle.journal_words.specs.Gtids.{gtid_of_word, set_of_word}
 use Rattle.row_images.specs.declared.value.Value.{Value}
 use Rattle.rows.specs.declared.change.Change.{Change}
 use Rattle.rows.specs.declared.change.Change.TheVariants as changes
+use Rattle.rows.specs.declared.limits.Limits.TheVariants.{Narrow}
 use Rattle.txn_journal.specs.Words.{name_of}
 use Rattle.binlog_text.specs.declared.types.ColumnType.{ColumnType}
 use Rattle.binlog_text.specs.Types.{parse_type}
@@ -168,7 +169,7 @@ open_row s operation None = Err refusals.Table
 open_row s operation (Some table) = Ok (record s { row = Some table; operation = operation; part = parts.Head })
 
 abbrev pub known_name : List ℕ → List Table → Option (List ℕ)
-known_name table tables = if is_some (find_table table tables) then name_of table else None
+known_name table tables = if is_some (find_table table tables) then name_of Narrow table else None
 
 abbrev pub begin_row : Standing → RowOperation → List ℕ → List ℕ → Result Standing EntryRefusal
 begin_row s operation database table =
@@ -237,7 +238,7 @@ unfoldable pub table_line : Standing → List ℕ → List ℕ → Result Standi
 table_line s database table =
     if not (is_begun s.stage) then Err refusals.Transaction
     else if not (may_be_database database s.database) then Err refusals.Table
-    else map_table s database (name_of table)
+    else map_table s database (name_of Narrow table)
 
 abbrev pub same_bool : Bool → Bool → Bool
 same_bool true b = b

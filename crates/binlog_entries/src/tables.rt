@@ -1,5 +1,6 @@
 //! Tables that a statement maps.
 ghost use Rattle.std.specs.Prelude.{◌≡◌, ◌∷◌, ◌++◌, [], IfOk, OnOk, OnErr, option_map, slice_get, length};
+ghost use Rattle.rows.specs.declared.limits.Limits.TheVariants.{Narrow};
 ghost use Rattle.txn_journal.specs.Words.{name_of};
 ghost use Rattle.binlog_entries.specs.Tables.{find_table};
 ghost use Rattle.binlog_entries.specs.Places.{ArePlaces};
@@ -149,7 +150,7 @@ impl Tables {
 
 /// The name that a word is.
 pub fn name_of(alloc: Global, word: &[u8]) -> Result<Option<Name>, AllocError>
-    ensures { IfOk result (λ found. found ≡ name_of word.now) }
+    ensures { IfOk result (λ found. found ≡ name_of Narrow word.now) }
 {
     let Ok(text) = std::str::from_utf8(word) else {
         return Ok(None);

@@ -1,7 +1,8 @@
 -- What is answered where the verdict is not Sound.
 use Rattle.std.proofs.Common.{◌≡◌, refl, sym, subst}
-use Rattle.std.specs.Prelude.{Result}
+use Rattle.std.specs.Prelude.{List, Result}
 use Rattle.rows.specs.declared.change.RowFault.{RowFault}
+use Rattle.rows.specs.declared.schema.Table.{Table}
 use Rattle.rows.specs.Apply.{Rows}
 use Rattle.gtid_set.specs.Sets.{Gtids}
 use Rattle.world.specs.declared.verdict.Verdict.{Verdict}
@@ -14,19 +15,19 @@ use Rattle.commands.specs.Bundles.{printed_verdict, state_or_verdict, apply_answ
 use Rattle.commands.specs.declared.answer.Answer.{Answer}
 
 -- any other verdict is reported as it is
-verdict_is_said : (v : Verdict) (executed : Gtids) (rows : Result Rows RowFault) → (v ≡ Sound → ⊥) → state_or_verdict v executed rows ≡ printed_verdict v
-verdict_is_said Sound executed rows isnt = absurd (isnt refl)
-verdict_is_said (Unequal g) executed rows isnt = refl
-verdict_is_said (Purged i gtids) executed rows isnt = refl
-verdict_is_said (Missing g) executed rows isnt = refl
-verdict_is_said (Shared g h key) executed rows isnt = refl
-verdict_is_said (Reordered g h key) executed rows isnt = refl
-verdict_is_said (Concurrent g h key) executed rows isnt = refl
-verdict_is_said (NotClosed g h) executed rows isnt = refl
-verdict_is_said (DoesNotApply g fault) executed rows isnt = refl
+verdict_is_said : (schema : List Table) (v : Verdict) (executed : Gtids) (rows : Result Rows RowFault) → (v ≡ Sound → ⊥) → state_or_verdict schema v executed rows ≡ printed_verdict v
+verdict_is_said schema Sound executed rows isnt = absurd (isnt refl)
+verdict_is_said schema (Unequal g) executed rows isnt = refl
+verdict_is_said schema (Purged i gtids) executed rows isnt = refl
+verdict_is_said schema (Missing g) executed rows isnt = refl
+verdict_is_said schema (Shared g h key) executed rows isnt = refl
+verdict_is_said schema (Reordered g h key) executed rows isnt = refl
+verdict_is_said schema (Concurrent g h key) executed rows isnt = refl
+verdict_is_said schema (NotClosed g h) executed rows isnt = refl
+verdict_is_said schema (DoesNotApply g fault) executed rows isnt = refl
 
 -- the line of a verdict that is not Sound is what applying is answered with
 pub verdict_applied : (order : Order) (b : BundleValue) (v : Verdict) (answer : Answer) → IsUnsound order b v → Holds answer (printed_verdict v) → Holds answer (apply_answer order b)
 verdict_applied order b v answer unsound holds =
-    subst (λ (w : Verdict). Holds answer (state_or_verdict w (union_of_journals b) (rows_of_union order b))) unsound.0
-    (subst (Holds answer) (sym (verdict_is_said v (union_of_journals b) (rows_of_union order b) unsound.1)) holds)
+    subst (λ (w : Verdict). Holds answer (state_or_verdict b.start.schema w (union_of_journals b) (rows_of_union order b))) unsound.0
+    (subst (Holds answer) (sym (verdict_is_said b.start.schema v (union_of_journals b) (rows_of_union order b) unsound.1)) holds)

@@ -1,8 +1,12 @@
 -- What the commands on bundles answer.
-use Rattle.std.specs.Prelude.{ℕ, List, ◌++◌, flat_map, Some, None, Result, Ok, Err}
+use Rattle.std.specs.Prelude.{ℕ, Bool, true, false, List, ◌++◌, Some, None, Result, Ok, Err, if◌then◌else◌}
+use Rattle.std.specs.List.{list_any}
 use Rattle.std.specs.FinSet as set
 use Rattle.rows.specs.declared.change.RowFault.{RowFault}
 use Rattle.rows.specs.declared.change.TableRow.{TableRow}
+use Rattle.rows.specs.declared.limits.Limits.{Limits}
+use Rattle.rows.specs.declared.limits.Limits.TheVariants.{Narrow, Wide}
+use Rattle.rows.specs.declared.schema.Table.{Table}
 use Rattle.rows.specs.Apply.{Rows}
 use Rattle.world.specs.declared.verdict.Verdict.{Verdict}
 use Rattle.world.specs.declared.verdict.Verdict.TheVariants.{Sound}
@@ -11,11 +15,12 @@ use Rattle.gtid_set.specs.Sets.{Gtids}
 use Rattle.convergence.specs.Deciding.{all_of}
 use Rattle.txn_journal.specs.BundleStates.{BundleValue}
 use Rattle.txn_journal.specs.BundleReading.{bundle_start, feed_bundle_bytes, closing_bundle}
-use Rattle.txn_journal.specs.BundleText.{WritesBundleBy, WritesBundle, upgrade_of}
+use Rattle.txn_journal.specs.BundleText.{WritesBundleBy, WritesBundle, spelling_by}
 use Rattle.txn_journal.specs.BundleRefused.{RefusesBundleBy, RefusesBundle}
-use Rattle.txn_journal.specs.declared.lines.Version.TheVariants.{One}
+use Rattle.txn_journal.specs.declared.lines.Version.{Version}
+use Rattle.txn_journal.specs.declared.lines.Version.TheVariants.{One, Two, Three}
 use Rattle.txn_journal.specs.declared.fault.JournalFault.{JournalFault}
-use Rattle.gtid_report.specs.State.{executed_line, row_line, state_text}
+use Rattle.gtid_report.specs.State.{executed_line, rows_text, state_text}
 use Rattle.gtid_report.specs.VerdictLines.{verdict_line}
 use Rattle.history.specs.World as ordered
 use Rattle.serving.specs.declared.order.Order.{Order}
@@ -63,11 +68,23 @@ audit_answer order b = printed_verdict (verdict_over order b)
 abbrev pub Audits : Order → List ℕ → Printed → Type 0
 Audits order bytes printed = IsAnswerTo ParsesAsBundle bundle_in (audit_answer order) IsVerdictFault bytes printed
 
--- ---- the bundle by version 2
+-- ---- a bundle as text
 
--- its text, with its rows in listed order
+-- by version 2, with its rows in listed order
 abbrev pub upgrade_answer : BundleValue → Printed
-upgrade_answer b = record { text = upgrade_of b; outcome = Done }
+upgrade_answer b = record { text = spelling_by Two b; outcome = Done }
+
+abbrev pub is_wide : Limits → Bool
+is_wide Narrow = false
+is_wide Wide = true
+
+-- version 3 where a table has its limits, else version 2
+abbrev pub written_version : BundleValue → Version
+written_version b = if list_any (λ t. is_wide t.limits) b.start.schema then Three else Two
+
+-- by that version
+abbrev pub written_answer : BundleValue → Printed
+written_answer b = record { text = spelling_by (written_version b) b; outcome = Done }
 
 -- it is what upgrading answers to these bytes
 abbrev pub Upgrades : List ℕ → Printed → Type 0
@@ -75,21 +92,21 @@ Upgrades bytes printed = IsAnswerTo ParsesAsOldBundle old_bundle_in upgrade_answ
 
 -- ---- the state
 
--- an executed set and these rows, in this order
-abbrev pub printed_rows : Gtids → List TableRow → Printed
-printed_rows executed listed = record { text = executed_line executed ++ flat_map row_line listed; outcome = Done }
+-- an executed set and these rows of these tables, in this order
+abbrev pub printed_rows : List Table → Gtids → List TableRow → Printed
+printed_rows schema executed listed = record { text = executed_line executed ++ rows_text schema listed; outcome = Done }
 
-abbrev pub printed_state : Gtids → Rows → Printed
-printed_state executed rows = record { text = state_text executed rows; outcome = Done }
+abbrev pub printed_state : List Table → Gtids → Rows → Printed
+printed_state schema executed rows = record { text = state_text schema executed rows; outcome = Done }
 
 -- the GTIDs of all journals together
 abbrev pub union_of_journals : BundleValue → Gtids
 union_of_journals b = all_of b.opened b.journals
 
 -- the state, if the verdict is Sound (these transactions then apply); else the verdict
-abbrev pub state_or_verdict : Verdict → Gtids → Result Rows RowFault → Printed
-state_or_verdict Sound executed (Ok rows) = printed_state executed rows
-state_or_verdict v executed rows = printed_verdict v
+abbrev pub state_or_verdict : List Table → Verdict → Gtids → Result Rows RowFault → Printed
+state_or_verdict schema Sound executed (Ok rows) = printed_state schema executed rows
+state_or_verdict schema v executed rows = printed_verdict v
 
 -- the rows that the GTIDs of all journals together denote: of the sources, or in the joined order
 abbrev pub rows_of_union : Order → BundleValue → Result Rows RowFault
@@ -99,7 +116,7 @@ rows_of_union ByConflict b = ordered.rows_of (joined_over b) (set.contains (unio
 -- The executed set is that of all journals together, and the rows are those that this set denotes, if the audit reports Sound; else its
 -- verdict.
 abbrev pub apply_answer : Order → BundleValue → Printed
-apply_answer order b = state_or_verdict (verdict_over order b) (union_of_journals b) (rows_of_union order b)
+apply_answer order b = state_or_verdict b.start.schema (verdict_over order b) (union_of_journals b) (rows_of_union order b)
 
 -- it is what applying answers to these bytes
 abbrev pub Applies : Order → List ℕ → Printed → Type 0

@@ -8,18 +8,25 @@ use crate::answer::Answer;
 use crate::audit_command::verdict_answer;
 use crate::edge::Outcome;
 use crate::pieces::Text;
-use gtid_report::render_state;
+use gtid_report::{render_executed, render_lent_rows};
 use replica_core::Core;
+use rows::Schema;
 use serving::Order;
 use std::alloc::{AllocError, Global};
 use txn_journal::Bundle;
 use world::Verdict;
 
-/// The lines of a replica's state.
-pub(crate) fn state_answer(alloc: Global, core: &Core) -> Result<Answer, AllocError>
-    ensures { IfOk result (λ answer. Holds answer (printed_state core.now.state.executed core.now.state.rows)) }
+/// The lines of a replica's state, whose rows are of these tables.
+pub(crate) fn state_answer(
+    alloc: Global,
+    schema: &Schema,
+    core: &Core,
+) -> Result<Answer, AllocError>
+    ensures { IfOk result (λ answer. Holds answer (printed_state schema.now core.now.state.executed core.now.state.rows)) }
 {
-    let text = render_state(alloc, core.executed(), core.rows())?;
+    let mut text = render_executed(alloc, core.executed())?;
+    let list = core.rows().list_lent(alloc)?;
+    render_lent_rows(&mut text, schema, &list)?;
     Ok(Answer {
         outcome: Outcome::Done,
         text: Text::of(alloc, text),

@@ -20,7 +20,7 @@ use gtid_set::GtidSet;
 use journal::{Entry, Journal};
 use replica_core::Core;
 use row_parts::list_whole;
-use rows::{Key, Row, Rows};
+use rows::{Key, Row, Rows, Schema};
 use serving::{Order, StateOrVerdict, keeps_servable, serve};
 use source_shares::{Merged, merge_by_shares};
 use std::alloc::{AllocError, Global};
@@ -31,17 +31,18 @@ use txn_journal::Bundle;
 /// How often the list of rows is halved for threads that print it.
 const HALVINGS: u8 = 2;
 
-/// The lines of an executed set, and of rows that are lent in order.
+/// The lines of an executed set, and of rows of these tables that are lent in order.
 fn listed_answer<R: Threads + Sync>(
     rt: &R,
     alloc: Global,
+    schema: &Schema,
     executed: &GtidSet,
     list: &[(&Key, &Row)],
 ) -> Result<Answer, AllocError>
-    ensures { IfOk result (λ answer. Holds answer (printed_rows executed.now (rows_of (all_shown list.now)))) }
+    ensures { IfOk result (λ answer. Holds answer (printed_rows schema.now executed.now (rows_of (all_shown list.now)))) }
 {
     let line = render_executed(alloc, executed)?;
-    let text = render_beside(rt, alloc, line, list, HALVINGS)?;
+    let text = render_beside(rt, alloc, line, schema, list, HALVINGS)?;
     Ok(Answer {
         outcome: Outcome::Done,
         text,
@@ -55,10 +56,10 @@ fn parts_answer<R: Threads + Sync>(
     opening: &Rows,
     merged: &Merged,
 ) -> Result<Answer, AllocError>
-    ensures { IfOk result (λ answer. (whole : _) → AreParts opening.now.rows (rows_in_each merged.now.parts.items) whole → Holds answer (printed_state merged.now.executed whole)) }
+    ensures { IfOk result (λ answer. (whole : _) → AreParts opening.now.rows (rows_in_each merged.now.parts.items) whole → Holds answer (printed_state opening.now.schema merged.now.executed whole)) }
 {
     let list = list_whole(rt, alloc, opening, &merged.parts)?;
-    listed_answer(rt, alloc, &merged.executed, &list)
+    listed_answer(rt, alloc, opening.schema(), &merged.executed, &list)
 }
 
 /// The lines of a bundle's result.
@@ -72,7 +73,7 @@ fn merged_answer(
     ensures { IfOk result (λ answer. Holds answer (apply_answer order bundle.now)) }
 {
     match merged {
-        StateOrVerdict::State(core) => state_answer(alloc, core),
+        StateOrVerdict::State(core) => state_answer(alloc, bundle.schema(), core),
         StateOrVerdict::Verdict(verdict) => unsound_answer(alloc, order, bundle, verdict),
     }
 }

@@ -11,7 +11,7 @@ use crate::streams::Streams;
 use crate::text::OldBundle;
 use gtid_report::Fault;
 use std::alloc::Global;
-use txn_journal::bundle_text_v2;
+use txn_journal::{Version, bundle_text};
 
 /// The request to write a bundle of version 1 by version 2.
 struct Upgrade;
@@ -24,7 +24,7 @@ impl Request for Upgrade {
     fn answer(&self, alloc: Global, old: &OldBundle) -> Result<Answer, Fault> {
         Ok(Answer {
             outcome: Outcome::Done,
-            text: Text::of(alloc, bundle_text_v2(alloc, &old.bundle)?),
+            text: Text::of(alloc, bundle_text(alloc, Version::Two, &old.bundle)?),
         })
     }
 }

@@ -3,7 +3,7 @@ use Rattle.std.proofs.Common.{◌≡◌, ◌⊎◌, ℕ, Bool, true, false, ◌&
 use Rattle.std.specs.Prelude.{◌==◌, ◌↔◌, IsTrue, Option, Result, Ok, Err}
 use Rattle.std.specs.FinSet as set
 use Rattle.std.proofs.lemmas.Bool.Decides.{nat_tests}
-use Rattle.lemmas.proofs.SameGtid.{gtid_total}
+use Rattle.lemmas.proofs.SameGtid.{gtid_total, gtid_exact}
 use Rattle.lemmas.proofs.Tests.{same_bool}
 use Rattle.gtid_text.specs.Reading.{answer, source_in}
 use Rattle.gtid_text.specs.Gtids.{gtid_cmp}
@@ -15,7 +15,6 @@ use Rattle.gtid_set.specs.declared.fault.SetFault.TheVariants as sets
 use Rattle.gtid_set.specs.declared.fault.SetTextFault.TheVariants.{Text, Set}
 use Rattle.gtid_set.specs.Sets.{Gtids}
 use Rattle.gtid_set.specs.Texts.{set_in}
-use Rattle.gtid_set.proofs.SetLemmas.{same_members}
 use Rattle.gtid_report.specs.Faults.{text_fault, set_fault}
 use Rattle.gtid_report.specs.SetAnswers.{named_set, named_source, set_word, source_word, test_line, of_two, line_of, function_line}
 use Rattle.gtid_report.specs.declared.fault.Fault.{Fault}
@@ -48,7 +47,7 @@ subset_itself : (s : Gtids) → set.is_subset s s ≡ true
 subset_itself s = set.contains-is_subset gtid_total s s (λ q e. e)
 
 same_parts : (s t : Gtids) → set.is_subset s t ≡ true → set.is_subset t s ≡ true → s ≡ t
-same_parts s t e f = same_members s t (λ q. same_bool (set.contains s q) (set.contains t q) (set.is_subset-contains gtid_total s t e q) (set.is_subset-contains gtid_total t s f q))
+same_parts s t e f = set.same_set gtid_total gtid_exact s t (λ q. same_bool (set.contains s q) (set.contains t q) (set.is_subset-contains gtid_total s t e q) (set.is_subset-contains gtid_total t s f q))
 
 pub equal_test : (r : Bool) (s t : Gtids) → IsTrue r ↔ (s ≡ t) → r ≡ (set.is_subset s t && set.is_subset t s)
 equal_test true s t h =

@@ -2,7 +2,8 @@
 //!
 //! What a contract sees: each line as a definition over the value that it prints, and the text as the list of its bytes: `render_fault`
 //! gives exactly `refusal_line`, `render_verdict` exactly `verdict_line`, `render_state` exactly `state_text`. The lines are those of
-//! docs/FORMATS.md, section 7, and docs/SCRIPTS.md.
+//! docs/FORMATS.md, section 7, and docs/SCRIPTS.md. The line of a row leaves out the values of its table's hidden columns (`row_line`); a
+//! verdict shows all values of a key.
 //!
 //! `set_function` answers a function by its name and words: E30 for an unknown name or a wrong number of words; else the refusal of the
 //! first bad word; else the canonical text, the number, or 1 or 0; else E9 or E8 if a set is full (`function_line`). The names beside

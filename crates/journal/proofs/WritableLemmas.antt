@@ -53,7 +53,7 @@ wide_values (v ∷ vs) h =
     let p = and_parts (is_value_writable Narrow v) (list_all (is_value_writable Narrow) vs) h in
     and_from (is_value_writable Wide v) (list_all (is_value_writable Wide) vs) (wide_value v p.0) (wide_values vs p.1)
 
-wide_image : (image : List Value) → is_image_writable Narrow image ≡ true → is_image_writable Wide image ≡ true
+pub wide_image : (image : List Value) → is_image_writable Narrow image ≡ true → is_image_writable Wide image ≡ true
 wide_image image h =
     let p = and_parts (leb 1 (length image)) (leb (length image) 64 && list_all (is_value_writable Narrow) image) h in
     let q = and_parts (leb (length image) 64) (list_all (is_value_writable Narrow) image) p.1 in

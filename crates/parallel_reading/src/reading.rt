@@ -137,7 +137,7 @@ pub fn feed_beside<R: Threads + Sync>(
     *reader = fed_beside(rt, alloc, taken, piece, workers);
 }
 
-/// The bundle that the bytes parse as, all of the bytes, by either version of the format. Its lines are parsed by several threads.
+/// The bundle that the bytes parse as, all of the bytes, by any version of the format. Its lines are parsed by several threads.
 pub fn decode_beside<R: Threads + Sync>(
     rt: &R,
     alloc: Global,

@@ -1,5 +1,5 @@
 -- The answer to a query. The words and their order are our own.
-use Rattle.std.specs.Prelude.{ℕ, Bool, true, false, List, ◌++◌, length, flat_map, slice_get, Option, Some, None, option_map, codes, decimal}
+use Rattle.std.specs.Prelude.{ℕ, Bool, true, false, List, ◌++◌, length, slice_get, Option, Some, None, option_map, codes, decimal}
 use Rattle.gtid_text.specs.declared.Gtid.{Gtid}
 use Rattle.gtid_text.specs.Canonical.{gtid_text}
 use Rattle.gtid_set.specs.Sets.{Gtids}
@@ -8,7 +8,7 @@ use Rattle.rows.specs.Listing.{rows_listed}
 use Rattle.apply_channel.specs.Channels.{Received}
 use Rattle.txn_journal.specs.WrittenSets.{set_text}
 use Rattle.txn_journal.specs.Spelling.{spelling}
-use Rattle.gtid_report.specs.State.{row_line}
+use Rattle.gtid_report.specs.State.{rows_text}
 use Rattle.replica_lines.specs.Status.{status_text}
 use Rattle.replica_core.specs.State.{Replica, State, entry_at}
 use Rattle.replica_core.specs.Machine.{ask, drained, next_ready}
@@ -49,7 +49,7 @@ place_or_none (Some place) = decimal place
 
 -- the lines that answer a query
 abbrev pub query_text : Replica → Query → List ℕ
-query_text r query.Rows = flat_map row_line (rows_listed r.state.rows)
+query_text r query.Rows = rows_text r.site.schema (rows_listed r.state.rows)
 query_text r query.Executed = with_line_feed (set_text r.state.executed)
 query_text r query.Purged = with_line_feed (set_text r.state.journal.previous)
 query_text r query.Journal = spelling r.state.journal

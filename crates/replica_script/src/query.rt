@@ -41,7 +41,7 @@ fn rows_text(alloc: Global, core: &Core) -> Result<String, AllocError>
 {
     let rows = core.rows().list_sorted(alloc)?;
     let mut text = String::new(alloc);
-    render_rows(&mut text, &rows)?;
+    render_rows(&mut text, core.rows().schema(), &rows)?;
     Ok(text)
 }
 

@@ -1,10 +1,9 @@
 -- What the tables of a schema keep to.
-use Rattle.std.proofs.Common.{arith, ◌≡◌, ℕ, ltb, zero, suc, get_or, refl, sym, ap, subst, ◌≤◌, ◌<◌, nat_le, nat_lt, Bool, true, false, not, cond, ◌&&◌, ◌||◌, List, [], ◌∷◌, ◌++◌, length, length-append, Option, Some, None, is_some, ◌∙◌}
+use Rattle.std.proofs.Common.{arith, ◌≡◌, ℕ, zero, suc, get_or, refl, sym, ap, subst, ◌≤◌, ◌<◌, nat_le, nat_lt, Bool, true, false, not, cond, ◌&&◌, ◌||◌, List, [], ◌∷◌, ◌++◌, length, take, length-append, Option, Some, None, is_some, ◌∙◌}
 use Rattle.std.proofs.lemmas.Bool.Decides.{nat_tests}
 use Rattle.std.specs.List.{list_all}
 use Rattle.std.proofs.lemmas.List.Folds.{list_all-append}
-use Rattle.std.specs.Ordering.{nat_cmp, is_eq, eq_by_cmp}
-use Rattle.std.specs.declared.cmp.Ordering.TheVariants.{Equal}
+use Rattle.std.specs.Ordering.{nat_cmp, eq_by_cmp}
 use Rattle.std.specs.Cmp.{eq_by_cmp_equiv}
 use Rattle.std.specs.Cmp.Lexicographic.{slice_cmp, nat_list_cmp_total}
 use Rattle.rows.specs.Keys.{find_table}
@@ -14,7 +13,7 @@ use Rattle.rows.specs.declared.limits.Limits.TheVariants.{Narrow, Wide}
 use Rattle.rows.specs.Tables.{is_table, has_column_lists, is_within_limits, has_its_columns, is_taken, table_fault, are_named_once, AreTables}
 use Rattle.rows.specs.declared.schema.TableFault.TheVariants.{Body, Limit, Schema}
 use Rattle.rows.specs.declared.schema.Table.{Table}
-use Rattle.std.proofs.lemmas.Bool.{ltb-true, and_parts, and_from, false_from_ne_true, not-false, or_parts, not_from_false, not-true}
+use Rattle.std.proofs.lemmas.Bool.{and_parts, and_from, false_from_ne_true, not-false, or_parts, not_from_false, not-true}
 use Rattle.std.proofs.lemmas.Option.{same_Some}
 use Rattle.std.specs.Borrow.{Bor}
 use Rattle.std.specs.Option.{option_copied}
@@ -91,21 +90,39 @@ table_added tables table h e =
       once = are_named_once-push tables table h.once names.0;
     }
 
+-- nor has another its name
+pub not_taken : (tables : List Table) (table : Table) → table_fault tables table ≡ None → is_taken table.name tables ≡ false
+not_taken tables table e =
+    (or_parts (is_taken table.name tables) (not (has_its_columns table)) (no_fault (not (has_column_lists table)) (not (is_within_limits table && nat_lt (length tables) (most_tables table.limits))) (is_taken table.name tables || not (has_its_columns table)) e).2).0
+
 -- ---- a table that is found
 
+-- a name that is found later is not the first one
+named_apart : (name : List ℕ) (x : Table) (tables : List Table) (table : Table) → is_taken x.name tables ≡ false → find_table name tables ≡ Some table → eq_by_cmp (slice_cmp nat_cmp) name x.name ≡ false
+named_apart name x tables table free later =
+    false_from_ne_true (eq_by_cmp (slice_cmp nat_cmp) name x.name) (λ e.
+    let taken : is_taken x.name tables ≡ true = ap (λ (n : List ℕ). is_taken n tables) (sym ((names-Decide name x.name).0 e)) ∙ ap is_some later in
+    absurd cc)
+
 -- the table at a place has its name alone
-pub named_at : (name : List ℕ) (tables : List Table) (place : ℕ) (d : Table) → are_named_once tables ≡ true → place < length tables → eq_by_cmp (slice_cmp nat_cmp) name (get_or tables place d).name ≡ true → find_table name tables ≡ Some (get_or tables place d)
+named_at : (name : List ℕ) (tables : List Table) (place : ℕ) (d : Table) → are_named_once tables ≡ true → place < length tables → eq_by_cmp (slice_cmp nat_cmp) name (get_or tables place d).name ≡ true → find_table name tables ≡ Some (get_or tables place d)
 named_at name [] place d once lt same = absurd (omega arith)
 named_at name (x ∷ tables) zero d once lt same = rw same refl
 named_at name (x ∷ tables) (suc place) d once lt same =
     let parts = and_parts (not (is_taken x.name tables)) (are_named_once tables) once in
     let later = named_at name tables place d parts.1 (omega arith) same in
-    let apart : eq_by_cmp (slice_cmp nat_cmp) name x.name ≡ false =
-    false_from_ne_true (eq_by_cmp (slice_cmp nat_cmp) name x.name) (λ e.
-    let taken : is_taken x.name tables ≡ true = ap (λ (n : List ℕ). is_taken n tables) (sym ((names-Decide name x.name).0 e)) ∙ ap is_some later in
-    let free = not-true (is_taken x.name tables) parts.0 in
-    absurd cc) in
-    rw apart later
+    rw (named_apart name x tables (get_or tables place d) (not-true (is_taken x.name tables) parts.0) later) later
+
+-- no table before a place has the name of the one at it
+pub not_before : (tables : List Table) (place : ℕ) (d : Table) → are_named_once tables ≡ true → place < length tables → is_taken (get_or tables place d).name (take place tables) ≡ false
+not_before [] place d once lt = absurd (omega arith)
+not_before (x ∷ tables) zero d once lt = λ _. false
+not_before (x ∷ tables) (suc place) d once lt =
+    let parts = and_parts (not (is_taken x.name tables)) (are_named_once tables) once in
+    let name = (get_or tables place d).name in
+    let found = named_at name tables place d parts.1 (omega arith) ((eq_by_cmp_equiv nat_list_cmp_total).refl name) in
+    by_untaken (eq_by_cmp (slice_cmp nat_cmp) name x.name) x (find_table name (take place tables))
+    (named_apart name x tables (get_or tables place d) (not-true (is_taken x.name tables) parts.0) found) (not_before tables place d parts.1 (omega arith))
 
 -- what is found has at most 64 unique keys
 pub few_found : (name : List ℕ) (tables : List Table) (table : Table) → HaveFewUniques tables → find_table name tables ≡ Some table → length table.uniques ≤ 64
@@ -119,9 +136,3 @@ few_found name (x ∷ tables) table few e =
 pub few_shown : (name : List ℕ) (tables : List Table) (r : Option (Bor Table)) → HaveFewUniques tables → option_copied r ≡ find_table name tables → IfSome r (λ (t : Bor Table). length t.now.uniques ≤ 64)
 few_shown name tables None few e = tt
 few_shown name tables (Some t) few e = few_found name tables t.now few (sym e)
-
-pub named_got : (name : List ℕ) (tables shown : List Table) (place : ℕ) (table : Table) → are_named_once tables ≡ true → shown ≡ tables → true ≡ ltb place (length shown) → table ≡ get_or shown place table → Equal ≡ slice_cmp nat_cmp name table.name → find_table name tables ≡ Some table
-named_got name tables shown place table once same lt is equal =
-    let here = ap is_eq (sym equal) in
-    subst (λ (ts : List Table). find_table name ts ≡ Some table) same
-    (named_at name shown place table (ap are_named_once same ∙ once) (ltb-true _ _ (sym lt)) (ap (λ (t : Table). eq_by_cmp (slice_cmp nat_cmp) name t.name) (sym is) ∙ here) ∙ ap (λ (t : Table). Some t) (sym is))

@@ -1,5 +1,5 @@
 -- Which tables may be together in a schema.
-use Rattle.std.specs.Prelude.{◌≡◌, ◌≤◌, ℕ, Bool, true, not, ◌&&◌, ◌||◌, ◌==◌, nat_le, nat_lt, if◌then◌else◌, List, [], ◌∷◌, length, Option, Some, None, is_some}
+use Rattle.std.specs.Prelude.{◌≡◌, ◌≤◌, ℕ, Bool, true, not, ◌&&◌, ◌||◌, ◌==◌, nat_le, nat_lt, if◌then◌else◌, List, [], ◌∷◌, length, map, Option, Some, None, is_some}
 use Rattle.std.specs.List.{list_any, list_all}
 use Rattle.rows.specs.declared.schema.Table.{Table}
 use Rattle.rows.specs.declared.schema.TableFault.{TableFault}
@@ -49,6 +49,10 @@ table_fault tables table =
 abbrev pub are_named_once : List Table → Bool
 are_named_once [] = true
 are_named_once (table ∷ tables) = not (is_taken table.name tables) && are_named_once tables
+
+-- the name of each table, in order
+abbrev pub table_names : List Table → List (List ℕ)
+table_names tables = map (λ table. table.name) tables
 
 -- the invariant of the tables of a schema
 pub record AreTables (tables : List Table) : Type 0 where

@@ -6,6 +6,7 @@ ghost use Rattle.std.specs.List.{list_all};
 ghost use Rattle.std.specs.List.{count_by, slice_split};
 ghost use Rattle.rows.specs.Names.{is_short_name_byte, begins_with_digit, has_short_length, is_short_name, is_plain, is_low_digit, low_digit, is_escape, are_characters, is_name_part, is_name};
 
+use key_table::TableKey;
 use std::alloc::{AllocError, Global};
 use std::cmp::Ordering;
 use std::hash::{Hash, Hasher};
@@ -108,6 +109,12 @@ impl Clone for Name {
     fn clone(&self) -> Result<Name, AllocError> {
         let text = self.text.clone()?;
         Ok(Name { text })
+    }
+}
+
+impl TableKey for Name {
+    fn again(&self) -> Result<Name, AllocError> {
+        self.clone()
     }
 }
 

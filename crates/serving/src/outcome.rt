@@ -182,7 +182,7 @@ pub fn can_be_sent(bundle: &Bundle) -> bool
 }
 
 /// The replica of a bundle, with its opening rows and opening set and no channel yet.
-#[tactic(auto, using(txn_journal::proofs::GtidLaws::written_numbers))]
+#[tactic(auto, using(txn_journal::proofs::GtidLaws::written_numbers, crate::proofs::Written::opened_written))]
 fn open_replica(alloc: Global, bundle: &Bundle) -> Result<Core, SetFault>
     ensures ok { IfOk result (λ core. core ≡ opening bundle.now) }
     ensures fault { IsOkUnless result Memory }

@@ -12,22 +12,23 @@ use Rattle.journal.specs.Writing.{is_image_writable}
 use Rattle.gtid_set.specs.Sets.{Gtids}
 use Rattle.journal.specs.declared.Entry.{Entry}
 use Rattle.logical_timestamps.proofs.Timestamps.{last_committed_earlier}
-use Rattle.logical_timestamps.specs.Timestamps.{each_last_committed}
+use Rattle.logical_timestamps.specs.Timestamps.{last_committed, each_last_committed}
 use Rattle.txn_journal.specs.Stamps.{no_stamps, right_stamp, right_stamps, all_stamps}
 use Rattle.txn_journal.specs.Words.{IsOneLine}
 use Rattle.txn_journal.specs.Formats.{closing_by}
 use Rattle.rows.specs.Listing.{rows_listed}
 use Rattle.rows.specs.declared.limits.Limits.TheVariants.{Narrow}
+use Rattle.txn_journal.specs.Versions.{limits_of, is_numbered, newest}
 use Rattle.txn_journal.specs.WrittenSets.{IsWrittenSet}
 use Rattle.txn_journal.proofs.ListedRows.{listed_opening}
 use Rattle.txn_journal.specs.Stream.{Progress, Reading, Stopped, Judge}
 use Rattle.txn_journal.specs.Lines.{◌>>=◌, takes, keyword_of}
 use Rattle.txn_journal.specs.Machine.{Standing, empty, is_last, is_within, open_entry, judge}
-use Rattle.txn_journal.specs.Spelling.{Line, End, Close, line_text, journal_lines, IsStamp, AreStamps}
+use Rattle.txn_journal.specs.Spelling.{Line, End, Close, line_text, journal_lines, IsWritten, IsStamp, AreStamps}
 use Rattle.txn_journal.specs.Shapes.{shape_for}
 use Rattle.txn_journal.specs.BundleStates.{BundleValue, BundleStanding, bare, no_bundle, after_replica, is_due_in, with_opening, put_row, has_channel, join_channel, close_channel, after_inner, is_misstamped, unless_misstamped, judge_own, judge_inner, judge_part, judge_by, judge_bundle, is_done}
 use Rattle.txn_journal.specs.BundleReading.{is_inside, is_entry_open, bundles, closing_bundle, IsReadAs}
-use Rattle.txn_journal.specs.BundleText.{OwnLine, BundleLine, Own, Inner, Heads, Names, Starts, Has, Puts, Opens, Done, own_text, bundle_line_text, table_lines, row_lines, channel_lines, channels_lines, opening_set_lines, tables_lines, start_lines, bundle_lines, FitsRow, AreAdded, put_all, AreNamed, IsWrittenIn, AreBrought, IsOpeningSet, bundle_text, upgrade_of, IsWrittenBundle, IsBundle, WritesBundleBy, IsLastStamped, AreAlmostStamped, AlmostWritesBundle}
+use Rattle.txn_journal.specs.BundleText.{OwnLine, BundleLine, Own, Inner, Heads, Names, Starts, Has, Puts, Opens, Done, own_text, bundle_line_text, table_lines, row_lines, channel_lines, channels_lines, opening_set_lines, tables_lines, start_lines, bundle_lines, FitsRow, AreAdded, put_all, AreNamed, IsWrittenIn, AreBrought, IsOpeningSet, bundle_text, spelling_by, IsWrittenBundle, IsBundle, WritesBundleBy, IsLastStamped, AreAlmostStamped, AlmostWritesBundle}
 use Rattle.txn_journal.specs.BundleCauses.{own_word, FitsOwn, own_wording}
 use Rattle.txn_journal.specs.declared.bundle.BundleChannel.{BundleChannel}
 use Rattle.txn_journal.specs.declared.bundle_draft.Part.{Part}
@@ -36,7 +37,7 @@ use Rattle.txn_journal.specs.declared.bundle_draft.Word.TheVariants as words
 use Rattle.txn_journal.specs.declared.fault.Cause.{Cause}
 use Rattle.txn_journal.specs.declared.fault.Cause.TheVariants as causes
 use Rattle.txn_journal.specs.declared.lines.LinePlace.TheVariants as places
-use Rattle.txn_journal.specs.declared.lines.Version.TheVariants.{One, Two}
+use Rattle.txn_journal.specs.declared.lines.Version.TheVariants.{One, Two, Three}
 use Rattle.std.proofs.lemmas.Simd.{map-map}
 use Rattle.txn_journal.proofs.Judged.{bind_ok, done, ok_is}
 use Rattle.txn_journal.proofs.FormatLaws.{reads_back, runs, Leads, leads_none, leads_one, leads_both, Reads, CanGoOn, Laws}
@@ -70,9 +71,9 @@ IsRight whole version tables earlier stamp e = whole ≡ true → stamp ≡ righ
 abbrev IsOwnPart : Bool → Part → Type 0
 IsOwnPart whole p = (s : BundleStanding) (line : List ℕ) → judge_part p whole s line ≡ judge_own s line
 
-own_goes : (whole : Bool) (s t : BundleStanding) (l : OwnLine) → IsOwnPart whole s.part → is_due_in s.part (own_word l) ≡ true → FitsOwn s.due l → own_put s l ≡ Ok t → Leads (judge_by whole) bundle_line_text s (Own l ∷ []) t
+own_goes : (whole : Bool) (s t : BundleStanding) (l : OwnLine) → IsOwnPart whole s.part → is_due_in s.part (own_word l) ≡ true → FitsOwn s.due (limits_of s.version) l → own_put s l ≡ Ok t → Leads (judge_by whole) bundle_line_text s (Own l ∷ []) t
 own_goes whole s t l own is fits step =
-    leads_one (judge_by whole) bundle_line_text s t (Own l) (own_one s.due l fits) (own s (own_text l) ∙ own_reads s (own_text l) ∙ judged_again (own_wording s) (own_body s.due) (own_laws s) (own_put s) l is fits ∙ step)
+    leads_one (judge_by whole) bundle_line_text s t (Own l) (own_one s.due (limits_of s.version) l fits) (own s (own_text l) ∙ own_reads s (own_text l) ∙ judged_again (own_wording s) (own_body s.due (limits_of s.version)) (own_laws s) (own_put s) l is fits ∙ step)
 
 -- where the tables begin
 abbrev before_tables : Option Version → Version → ℕ → Gtids → BundleStanding
@@ -86,13 +87,21 @@ named_goes whole due version replica is small t e =
     let one : BundleStanding = record { part = parts.Replica; due = due; version = version; tables = []; bundle = bare 0 set.empty []; channel = None; draft = empty None } in
     leads_both (own_goes whole (no_bundle due) one (Heads version) (λ x line. refl) refl is refl) (own_goes whole one t (Names replica) (λ x line. refl) refl small (ap done (sym e)))
 
+-- where there is a line of the opening set
+opened_goes : (whole : Bool) (due : Option Version) (version : Version) → takes due version ≡ true → (b : BundleValue) → IsSource b.replica → IsWrittenSet b.opened → after_replica version ≡ parts.Opening
+    → Leads (judge_by whole) bundle_line_text (no_bundle due) (Own (Heads version) ∷ Own (Names b.replica) ∷ Own (Starts b.opened) ∷ []) (before_tables due version b.replica b.opened)
+unfolding own_put
+opened_goes whole due version is b small opened after =
+    let two : BundleStanding = record { part = parts.Opening; due = due; version = version; tables = []; bundle = bare b.replica set.empty []; channel = None; draft = empty None } in
+    let at : two ≡ record two { part = after_replica version } = ap (λ (p : Part). record two { part = p }) (sym after) in
+    leads_both (named_goes whole due version b.replica is small two at) (own_goes whole two (before_tables due version b.replica b.opened) (Starts b.opened) (λ x line. refl) refl opened refl)
+
 begins_lines : (whole : Bool) (due : Option Version) (version : Version) → takes due version ≡ true → (b : BundleValue) → IsSource b.replica → IsOpeningSet version b.opened
     → Leads (judge_by whole) bundle_line_text (no_bundle due) (Own (Heads version) ∷ Own (Names b.replica) ∷ opening_set_lines version b.opened) (before_tables due version b.replica b.opened)
 unfolding own_put
 begins_lines whole due One is b small opened = named_goes whole due One b.replica is small (before_tables due One b.replica b.opened) (λ i. before_tables due One b.replica (opened i))
-begins_lines whole due Two is b small opened =
-    let two : BundleStanding = record { part = parts.Opening; due = due; version = Two; tables = []; bundle = bare b.replica set.empty []; channel = None; draft = empty None } in
-    leads_both (named_goes whole due Two b.replica is small two refl) (own_goes whole two (before_tables due Two b.replica b.opened) (Starts b.opened) (λ x line. refl) refl opened refl)
+begins_lines whole due Two is b small opened = opened_goes whole due Two is b small opened refl
+begins_lines whole due Three is b small opened = opened_goes whole due Three is b small opened refl
 
 -- entries are looked at as a whole or are not
 module _ (whole : Bool) (due : Option Version) (version : Version) (is_due_version : takes due version ≡ true) where
@@ -105,18 +114,18 @@ module _ (whole : Bool) (due : Option Version) (version : Version) (is_due_versi
   goes_none : (s : BundleStanding) → Goes s [] s
   goes_none s = leads_none (judge_by whole) bundle_line_text s
 
-  goes_own : (s t : BundleStanding) (l : OwnLine) → IsOwnPart whole s.part → is_due_in s.part (own_word l) ≡ true → FitsOwn s.due l → own_put s l ≡ Ok t → Goes s (Own l ∷ []) t
+  goes_own : (s t : BundleStanding) (l : OwnLine) → IsOwnPart whole s.part → is_due_in s.part (own_word l) ≡ true → FitsOwn s.due (limits_of s.version) l → own_put s l ≡ Ok t → Goes s (Own l ∷ []) t
   goes_own s t l own is fits step = own_goes whole s t l own is fits step
 
   -- ---- tables
 
-  goes_tables : (b : BundleValue) (draft : Standing) (before ts : List Table) → AreAdded before ts → Goes (state parts.Tables before b None draft) (table_lines ts) (state parts.Tables (before ++ ts) b None draft)
+  goes_tables : (b : BundleValue) (draft : Standing) (before ts : List Table) → AreAdded (limits_of version) before ts → Goes (state parts.Tables before b None draft) (table_lines ts) (state parts.Tables (before ++ ts) b None draft)
   unfolding own_put
   goes_tables b draft before [] h = subst (λ (x : List Table). Goes (state parts.Tables before b None draft) [] (state parts.Tables x b None draft)) (sym (append-nil before)) (goes_none (state parts.Tables before b None draft))
   goes_tables b draft before (t ∷ ts) h =
       let s = state parts.Tables before b None draft in
       let u = state parts.Tables (before ++ t ∷ []) b None draft in
-      let one : Goes s (Own (Has (shape_for t)) ∷ []) u = goes_own s u (Has (shape_for t)) (λ x line. refl) refl (shape_fits before t h.0 (allowed before t h.1)) (ap (λ (r : Result (List Table) Cause). r >>= λ x. done (state parts.Tables x b None draft)) (with_again before t h.0 h.1)) in
+      let one : Goes s (Own (Has (shape_for t)) ∷ []) u = goes_own s u (Has (shape_for t)) (λ x line. refl) refl (shape_fits (limits_of version) before t h.0 (allowed before t h.1)) (ap (λ (r : Result (List Table) Cause). r >>= λ x. done (state parts.Tables x b None draft)) (with_again (limits_of version) before t h.0 h.1)) in
       leads_both one (subst (λ (x : List Table). Goes u (table_lines ts) (state parts.Tables x b None draft)) (append_assoc before (t ∷ []) ts) (goes_tables b draft (before ++ t ∷ []) ts h.2))
 
   -- ---- a journal within its channel
@@ -175,8 +184,9 @@ module _ (whole : Bool) (due : Option Version) (version : Version) (is_due_versi
   due_itself : (v : Version) → takes (Some v) v ≡ true
   due_itself One = refl
   due_itself Two = refl
+  due_itself Three = refl
 
-  goes_journal : (b : BundleValue) (c : BundleChannel) (stamps : List ℕ) (j : JournalValue) → IsWrittenIn b.start.schema j → FitStamps b.start.schema stamps j
+  goes_journal : (b : BundleValue) (c : BundleChannel) (stamps : List ℕ) (j : JournalValue) → IsWrittenIn (limits_of version) b.start.schema j → FitStamps b.start.schema stamps j
       → Goes (state parts.Journal [] b (Some c) (empty (Some version))) (map Inner (journal_lines version stamps j)) (after_channels (with_channel b c j))
   goes_journal b c stamps j w fit =
       let s = state parts.Journal [] b (Some c) (empty (Some version)) in
@@ -193,6 +203,7 @@ module _ (whole : Bool) (due : Option Version) (version : Version) (is_due_versi
   record Late (s : BundleStanding) (b : BundleValue) : Type 0 where
     own : IsOwnPart whole s.part
     same_due : s.due ≡ due
+    same_version : s.version ≡ version
     channel : is_due_in s.part words.Channel ≡ true
     done : is_due_in s.part words.Done ≡ true
     opens : (c : BundleChannel) → length b.channels < 256 → has_channel b.channels c.name ≡ false → own_put s (Opens c) ≡ Ok (state parts.Journal [] b (Some c) (empty (Some version)))
@@ -202,19 +213,19 @@ module _ (whole : Bool) (due : Option Version) (version : Version) (is_due_versi
   record Early (s : BundleStanding) (b : BundleValue) : Type 0 where
     late : Late s b
     row : is_due_in s.part words.Row ≡ true
-    puts : (r : TableRow) (rows : Rows) → is_image_writable Narrow r.row ≡ true → with_opening b.start r ≡ Ok rows → own_put s (Puts r) ≡ Ok (state parts.Rows [] (with_rows b rows) None s.draft)
+    puts : (r : TableRow) (rows : Rows) → is_image_writable (limits_of version) r.row ≡ true → with_opening b.start r ≡ Ok rows → own_put s (Puts r) ≡ Ok (state parts.Rows [] (with_rows b rows) None s.draft)
 
   after_tables : (replica : ℕ) (opened : Gtids) (ts : List Table) (draft : Standing) → Early (state parts.Tables ts (bare replica opened []) None draft) (bare replica opened ts)
   unfolding own_put join_channel put_row
-  after_tables replica opened ts draft = record { late = record { own = λ x line. refl; same_due = refl; channel = refl; done = refl; opens = λ c room new. refl; ends = refl }; row = refl; puts = λ r rows writable e. rw (writable, e) refl }
+  after_tables replica opened ts draft = record { late = record { own = λ x line. refl; same_due = refl; same_version = refl; channel = refl; done = refl; opens = λ c room new. refl; ends = refl }; row = refl; puts = λ r rows writable e. rw (writable, e) refl }
 
   after_rows : (b : BundleValue) (draft : Standing) → Early (state parts.Rows [] b None draft) b
   unfolding own_put join_channel put_row
-  after_rows b draft = record { late = record { own = λ x line. refl; same_due = refl; channel = refl; done = refl; opens = λ c room new. rw (lt-leb 256 (length b.channels) room, new) refl; ends = refl }; row = refl; puts = λ r rows writable e. rw (writable, e) refl }
+  after_rows b draft = record { late = record { own = λ x line. refl; same_due = refl; same_version = refl; channel = refl; done = refl; opens = λ c room new. rw (lt-leb 256 (length b.channels) room, new) refl; ends = refl }; row = refl; puts = λ r rows writable e. rw (writable, e) refl }
 
   after_channel : (b : BundleValue) → Late (after_channels b) b
   unfolding own_put join_channel
-  after_channel b = record { own = λ x line. refl; same_due = refl; channel = refl; done = refl; opens = λ c room new. rw (lt-leb 256 (length b.channels) room, new) refl; ends = refl }
+  after_channel b = record { own = λ x line. refl; same_due = refl; same_version = refl; channel = refl; done = refl; opens = λ c room new. rw (lt-leb 256 (length b.channels) room, new) refl; ends = refl }
 
   -- lines after which b has come so far
   record Brings (s : BundleStanding) (ls : List BundleLine) (b : BundleValue) : Type 0 where
@@ -222,14 +233,14 @@ module _ (whole : Bool) (due : Option Version) (version : Version) (is_due_versi
     late : Late last b
     goes : Goes s ls last
 
-  brings_rows : (s : BundleStanding) (b : BundleValue) (rs : List TableRow) (new : Rows) → Early s b → AllByRecursion FitsRow rs → list_all (λ r. is_image_writable Narrow r.row) rs ≡ true → put_all b.start rs ≡ Ok new → Brings s (row_lines rs) (with_rows b new)
+  brings_rows : (s : BundleStanding) (b : BundleValue) (rs : List TableRow) (new : Rows) → Early s b → AllByRecursion (FitsRow (limits_of version)) rs → list_all (λ r. is_image_writable (limits_of version) r.row) rs ≡ true → put_all b.start rs ≡ Ok new → Brings s (row_lines rs) (with_rows b new)
   brings_rows s b [] new early fit writable e = record { last = s; late = subst (λ (x : Rows). Late s (with_rows b x)) (ok_is b.start.rows new e) early.late; goes = goes_none s }
   brings_rows s b (r ∷ rs) new early fit writable e =
-      let p = and_parts (is_image_writable Narrow r.row) (list_all (λ r. is_image_writable Narrow r.row) rs) writable in
+      let p = and_parts (is_image_writable (limits_of version) r.row) (list_all (λ r. is_image_writable (limits_of version) r.row) rs) writable in
       let a = bind_ok (with_opening b.start r) (λ rows. put_all (record b.start { rows = rows }) rs) new e in
       let u = state parts.Rows [] (with_rows b a.0) None s.draft in
       let more = brings_rows u (with_rows b a.0) rs new (after_rows (with_rows b a.0) s.draft) fit.1 p.1 a.2 in
-      record { last = more.last; late = more.late; goes = leads_both (goes_own s u (Puts r) early.late.own early.row fit.0 (early.puts r a.0 p.0 a.1)) more.goes }
+      record { last = more.last; late = more.late; goes = leads_both (goes_own s u (Puts r) early.late.own early.row (subst (λ (v : Version). FitsOwn s.due (limits_of v) (Puts r)) (sym early.late.same_version) fit.0) (early.puts r a.0 p.0 a.1)) more.goes }
 
   -- the numbers of each journal
   abbrev AllFitStamps : List Table → List (List ℕ) → List JournalValue → Type 0
@@ -240,13 +251,13 @@ module _ (whole : Bool) (due : Option Version) (version : Version) (is_due_versi
   abbrev with_channels : BundleValue → List BundleChannel → List JournalValue → BundleValue
   with_channels b cs js = record b { channels = b.channels ++ cs; journals = b.journals ++ js }
 
-  brings_channels : (s : BundleStanding) (b : BundleValue) (cs : List BundleChannel) (all : List (List ℕ)) (js : List JournalValue) → Late s b → AreNamed b.channels cs → length b.channels + length cs ≤ 256 → AreBrought b.start.schema cs js → AllFitStamps b.start.schema all js
+  brings_channels : (s : BundleStanding) (b : BundleValue) (cs : List BundleChannel) (all : List (List ℕ)) (js : List JournalValue) → Late s b → AreNamed (limits_of version) b.channels cs → length b.channels + length cs ≤ 256 → AreBrought (limits_of version) b.start.schema cs js → AllFitStamps b.start.schema all js
       → Brings s (channels_lines version cs all js) (with_channels b cs js)
   brings_channels s b [] [] [] late named few brought fit = record { last = s; late = subst (Late s) (λ i. record b { channels = sym (append-nil b.channels) i; journals = sym (append-nil b.journals) i }) late; goes = goes_none s }
   brings_channels s b (c ∷ cs) (stamps ∷ all) (j ∷ js) late named few brought fit =
       let t = state parts.Journal [] b (Some c) (empty (Some version)) in
       let d = with_channel b c j in
-      let opened : Goes s (Own (Opens c) ∷ []) t = goes_own s t (Opens c) late.own late.channel named.0 (late.opens c (omega arith) named.1) in
+      let opened : Goes s (Own (Opens c) ∷ []) t = goes_own s t (Opens c) late.own late.channel (subst (λ (v : Version). FitsOwn s.due (limits_of v) (Opens c)) (sym late.same_version) named.0) (late.opens c (omega arith) named.1) in
       let one : Goes s (channel_lines version c stamps j) (after_channels d) = leads_both opened (goes_journal b c stamps j brought.0 fit.0) in
       let more = brings_channels (after_channels d) d cs all js (after_channel d) named.2 (omega (arith, few, length-append b.channels (c ∷ []))) brought.1 fit.1 in
       let same : with_channels d cs js ≡ with_channels b (c ∷ cs) (j ∷ js) = λ i. record b { channels = append_assoc b.channels (c ∷ []) cs i; journals = append_assoc b.journals (j ∷ []) js i } in
@@ -297,30 +308,36 @@ module _ (whole : Bool) (due : Option Version) (version : Version) (is_due_versi
 right_is_stamp : (version : Version) (tables : List Table) (earlier : List Entry) (e : Entry) (place : ℕ) → place ≡ length earlier + 1 → IsStamp version place (right_stamp version tables earlier e)
 right_is_stamp One tables earlier e place at = refl
 right_is_stamp Two tables earlier e place at = let few = last_committed_earlier tables earlier e in omega (arith, few, at)
+right_is_stamp Three tables earlier e place at = let few = last_committed_earlier tables earlier e in omega (arith, few, at)
 
 none_are_stamps : (place : ℕ) (es : List Entry) → AreStamps One place (no_stamps es) es
 none_are_stamps place [] = tt
 none_are_stamps place (e ∷ es) = (refl, none_are_stamps (place + 1) es)
 
-each_are_stamps : (tables : List Table) (earlier es : List Entry) (place : ℕ) → place ≡ length earlier + 1 → AreStamps Two place (each_last_committed tables earlier es) es
-each_are_stamps tables earlier [] place at = tt
-each_are_stamps tables earlier (e ∷ es) place at = (right_is_stamp Two tables earlier e place at, each_are_stamps tables (earlier ++ e ∷ []) es (place + 1) (omega (arith, at, length-append earlier (e ∷ []))))
+each_are_stamps : (version : Version) → is_numbered version ≡ true → (tables : List Table) (earlier es : List Entry) (place : ℕ) → place ≡ length earlier + 1 → AreStamps version place (each_last_committed tables earlier es) es
+each_are_stamps version is tables earlier [] place at = tt
+each_are_stamps version is tables earlier (e ∷ es) place at =
+    let stamp : right_stamp version tables earlier e ≡ last_committed tables earlier e = ap (λ (b : Bool). cond b (last_committed tables earlier e) 0) is in
+    (subst (IsStamp version place) stamp (right_is_stamp version tables earlier e place at), each_are_stamps version is tables (earlier ++ e ∷ []) es (place + 1) (omega (arith, at, length-append earlier (e ∷ []))))
 
 pub right_are_stamps : (version : Version) (tables : List Table) (es : List Entry) → AreStamps version 1 (right_stamps version tables es) es
 right_are_stamps One tables es = none_are_stamps 1 es
-right_are_stamps Two tables es = each_are_stamps tables [] es 1 (omega arith)
+right_are_stamps Two tables es = each_are_stamps Two refl tables [] es 1 (omega arith)
+right_are_stamps Three tables es = each_are_stamps Three refl tables [] es 1 (omega arith)
 
 none_are_right : (whole : Bool) (tables : List Table) (earlier es : List Entry) → AreRight (IsRight whole One tables) earlier (no_stamps es) es
 none_are_right whole tables earlier [] = tt
 none_are_right whole tables earlier (e ∷ es) = (λ w. refl, none_are_right whole tables (earlier ++ e ∷ []) es)
 
-each_are_right : (whole : Bool) (tables : List Table) (earlier es : List Entry) → AreRight (IsRight whole Two tables) earlier (each_last_committed tables earlier es) es
-each_are_right whole tables earlier [] = tt
-each_are_right whole tables earlier (e ∷ es) = (λ w. refl, each_are_right whole tables (earlier ++ e ∷ []) es)
+each_are_right : (whole : Bool) (version : Version) → is_numbered version ≡ true → (tables : List Table) (earlier es : List Entry) → AreRight (IsRight whole version tables) earlier (each_last_committed tables earlier es) es
+each_are_right whole version is tables earlier [] = tt
+each_are_right whole version is tables earlier (e ∷ es) =
+    (λ w. ap (λ (b : Bool). cond b (last_committed tables earlier e) 0) (sym is), each_are_right whole version is tables (earlier ++ e ∷ []) es)
 
 right_are_right : (whole : Bool) (version : Version) (tables : List Table) (es : List Entry) → AreRight (IsRight whole version tables) [] (right_stamps version tables es) es
 right_are_right whole One tables es = none_are_right whole tables [] es
-right_are_right whole Two tables es = each_are_right whole tables [] es
+right_are_right whole Two tables es = each_are_right whole Two refl tables [] es
+right_are_right whole Three tables es = each_are_right whole Three refl tables [] es
 
 -- where entries are not looked at as a whole, any number is right that may be at its place
 any_are_right : (version : Version) (tables : List Table) (place : ℕ) (earlier : List Entry) (stamps : List ℕ) (es : List Entry) → AreStamps version place stamps es → AreRight (IsRight false version tables) earlier stamps es
@@ -434,6 +451,7 @@ goes_on_almost due version ls more rows all b is w almost e = record { value = b
 empty_opening : (version : Version) → IsOpeningSet version set.empty
 empty_opening One = refl
 empty_opening Two = none_written
+empty_opening Three = none_written
 
 no_rows_written : (version : Version) → IsWrittenBundle version [] (bare 0 set.empty [])
 no_rows_written version = tables_written version 0 set.empty [] (omega arith) (empty_opening version) tt
@@ -471,7 +489,7 @@ begins_inside due version rows b c draft w o =
     let d = with_channel b c k.journal in
     let whole : journal_lines version stamps k.journal ≡ lines_so_far draft ++ k.more = ap (λ (v : Version). journal_lines v stamps k.journal) (sym is) ∙ k.whole in
     let channel : channel_lines version c stamps k.journal ≡ inside ++ map Inner k.more = ap (λ (ls : List Line). Own (Opens c) ∷ map Inner ls) whole ∙ ap (λ (ls : List BundleLine). Own (Opens c) ∷ ls) (map-append Inner (lines_so_far draft) k.more) in
-    let written = channel_written version rows b c draft k.journal w.written o k.fits k.fitting in
+    let written = channel_written version rows b c draft k.journal w.written o (subst (λ (v : Version). IsWritten (limits_of v) k.journal) is k.fits) k.fitting in
     let lines : (fs : List BundleLine) → fs ≡ before ++ channel_lines version c stamps k.journal → fs ++ Own Done ∷ [] ≡ (before ++ inside) ++ more = λ fs e.
     ap (λ (ls : List BundleLine). ls ++ Own Done ∷ []) (e ∙ ap (λ (ls : List BundleLine). before ++ ls) channel ∙ sym (append_assoc before inside (map Inner k.more))) ∙ append_assoc (before ++ inside) (map Inner k.more) (Own Done ∷ []) in
     elim (is_within draft.place) as (λ v. is_within draft.place ≡ v → CanGoOn (bundles due) v (before ++ inside)) [
@@ -549,26 +567,45 @@ closing_same due (Stopped f) = refl
 opening_two : (version : Version) (opened : Gtids) → IsOpeningSet version opened → IsWrittenSet opened
 opening_two One opened is = subst IsWrittenSet (sym is) none_written
 opening_two Two opened is = is
+opening_two Three opened is = is
 
--- a bundle of either version may be written by version 2, with its rows in listed order
-pub relisted : (version : Version) (rows : List TableRow) (b : BundleValue) → IsWrittenBundle version rows b → IsBundle b
-relisted version rows b k = record {
+in_listed_order : (version : Version) (rows : List TableRow) (b : BundleValue) → IsWrittenBundle version rows b → IsWrittenBundle version (rows_listed b.start.rows) b
+in_listed_order version rows b k = record {
   replica = k.replica;
-  opened = opening_two version b.opened k.opened;
+  opened = k.opened;
   tables = k.tables;
-  opening = listed_opening b.start.schema rows b.start.rows k.opening;
+  opening = listed_opening (limits_of version) b.start.schema rows b.start.rows k.opening;
   named = k.named;
   few = k.few;
   brought = k.brought;
 }
 
-pub upgraded : (bytes : List ℕ) (b : BundleValue) → WritesBundleBy (Some One) bytes b → WritesBundleBy (Some Two) (upgrade_of b) b
-upgraded bytes b w = (Two, refl, record { rows = rows_listed b.start.rows; written = relisted w.0 w.2.rows b w.2.written; text = refl })
+-- a bundle of version 1 may be written by version 2, and one of a later version by the same, with its rows in listed order
+pub relisted_by : (version : Version) (rows : List TableRow) (b : BundleValue) → IsWrittenBundle version rows b → IsWrittenBundle (newest (limits_of version)) (rows_listed b.start.rows) b
+relisted_by One rows b k = record {
+  replica = k.replica;
+  opened = opening_two One b.opened k.opened;
+  tables = k.tables;
+  opening = listed_opening Narrow b.start.schema rows b.start.rows k.opening;
+  named = k.named;
+  few = k.few;
+  brought = k.brought;
+}
+relisted_by Two rows b k = in_listed_order Two rows b k
+relisted_by Three rows b k = in_listed_order Three rows b k
 
-pub upgraded_read : (bytes : List ℕ) (b : BundleValue) → WritesBundleBy (Some One) bytes b → IsReadAs (upgrade_of b) b
+pub relisted : (version : Version) (rows : List TableRow) (b : BundleValue) → IsWrittenBundle version rows b → IsBundle b
+relisted version rows b k = (limits_of version, relisted_by version rows b k)
+
+pub upgraded : (bytes : List ℕ) (b : BundleValue) → WritesBundleBy (Some One) bytes b → WritesBundleBy (Some Two) (spelling_by Two b) b
+upgraded bytes b (One, is, w) = (Two, refl, record { rows = rows_listed b.start.rows; written = relisted_by One w.rows b w.written; text = refl })
+upgraded bytes b (Two, is, w) = absurd cc
+upgraded bytes b (Three, is, w) = absurd cc
+
+pub upgraded_read : (bytes : List ℕ) (b : BundleValue) → WritesBundleBy (Some One) bytes b → IsReadAs (spelling_by Two b) b
 upgraded_read bytes b w =
     let u = upgraded bytes b w in
-    reads_back (bundles None) (IsSoundBundle None) (bundle_laws None) (upgrade_of b) b (u.0, any_version u.0, u.2)
+    reads_back (bundles None) (IsSoundBundle None) (bundle_laws None) (spelling_by Two b) b (u.0, any_version u.0, u.2)
   where
     any_version : (v : Version) → takes None v ≡ true
     any_version v = refl

@@ -8,13 +8,13 @@ use Rattle.std.proofs.lemmas.Bool.{leb-true, leb-false, le-leb, eqb-true, eq-eqb
 use Rattle.std.proofs.lemmas.List.{append-nil, length-append, length-map, map_push}
 use Rattle.gtid_text.specs.Written.{IsSource}
 use Rattle.gtid_set.proofs.SpanLemmas.{all_push}
-use Rattle.rows.specs.Names.{is_short_name}
+use Rattle.rows.specs.declared.limits.Limits.{Limits}
+use Rattle.txn_journal.specs.Versions.{limits_of, is_named, is_numbered}
 use Rattle.rows.specs.Apply.{Rows}
 use Rattle.rows.specs.Database.{Database}
 use Rattle.rows.specs.Tables.{table_fault}
 use Rattle.rows.specs.declared.schema.Table.{Table}
 use Rattle.rows.specs.declared.change.TableRow.{TableRow}
-use Rattle.rows.specs.declared.limits.Limits.TheVariants.{Narrow}
 use Rattle.journal.specs.Journals.{JournalValue}
 use Rattle.journal.specs.Writing.{is_image_writable}
 use Rattle.gtid_set.specs.Sets.{Gtids}
@@ -37,7 +37,7 @@ use Rattle.txn_journal.specs.declared.bundle_draft.Part.TheVariants as parts
 use Rattle.txn_journal.specs.declared.fault.Cause.{Cause}
 use Rattle.txn_journal.specs.declared.fault.Cause.TheVariants as causes
 use Rattle.txn_journal.specs.declared.lines.Version.{Version}
-use Rattle.txn_journal.specs.declared.lines.Version.TheVariants.{One, Two}
+use Rattle.txn_journal.specs.declared.lines.Version.TheVariants.{One, Two, Three}
 use Rattle.txn_journal.specs.declared.lines.LinePlace.{LinePlace}
 use Rattle.txn_journal.specs.declared.lines.LinePlace.TheVariants as places
 use Rattle.txn_journal.proofs.SoundLines.{IsSound, EntriesGo, SameEntries, judged_line}
@@ -61,7 +61,7 @@ pub record NoChannel (b : BundleValue) : Type 0 where
 
 -- a channel is open
 pub record IsOpen (version : Version) (b : BundleValue) (c : BundleChannel) (draft : Standing) : Type 0 where
-  pub name : is_short_name c.name ≡ true
+  pub name : is_named (limits_of version) c.name ≡ true
   pub new : has_channel b.channels c.name ≡ false
   pub room : length b.channels < 256
   pub same_version : draft.due ≡ Some version
@@ -86,12 +86,12 @@ pub record HasTables (due : Option Version) (version : Version) (tables : List T
   pub due_version : takes due version ≡ true
   pub replica : IsSource b.replica
   pub opened : IsOpeningSet version b.opened
-  pub added : AreAdded [] tables
+  pub added : AreAdded (limits_of version) [] tables
 
 abbrev pub SoundAt : Part → Option Version → Version → List Table → List TableRow → BundleValue → Option BundleChannel → Standing → Type 0
 SoundAt parts.Header due version tables rows b channel draft = tables ≡ []
 SoundAt parts.Replica due version tables rows b channel draft = IsBegun due version tables
-SoundAt parts.Opening due version tables rows b channel draft = IsBegun due version tables × (version ≡ Two) × IsSource b.replica
+SoundAt parts.Opening due version tables rows b channel draft = IsBegun due version tables × (is_numbered version ≡ true) × IsSource b.replica
 SoundAt parts.Tables due version tables rows b channel draft = HasTables due version tables b
 SoundAt parts.Rows due version tables rows b channel draft = IsDueBundle due version rows b × NoChannel b
 SoundAt parts.Channels due version tables rows b channel draft = IsDueBundle due version rows b
@@ -103,20 +103,20 @@ IsBundleSound rows s = SoundAt s.part s.due s.version s.tables rows s.bundle s.c
 
 -- ---- lists with one more
 
-added_more : (before ts : List Table) (t : Table) → AreAdded before ts → FitsTable t → table_fault (before ++ ts) t ≡ None → AreAdded before (ts ++ t ∷ [])
-added_more before [] t h fits free = (fits, subst (λ (x : List Table). table_fault x t ≡ None) (append-nil before) free, tt)
-added_more before (u ∷ ts) t h fits free = (h.0, h.1, added_more (before ++ u ∷ []) ts t h.2 fits (subst (λ (x : List Table). table_fault x t ≡ None) (sym (append_assoc before (u ∷ []) ts)) free))
+added_more : (limits : Limits) (before ts : List Table) (t : Table) → AreAdded limits before ts → FitsTable limits t → table_fault (before ++ ts) t ≡ None → AreAdded limits before (ts ++ t ∷ [])
+added_more limits before [] t h fits free = (fits, subst (λ (x : List Table). table_fault x t ≡ None) (append-nil before) free, tt)
+added_more limits before (u ∷ ts) t h fits free = (h.0, h.1, added_more limits (before ++ u ∷ []) ts t h.2 fits (subst (λ (x : List Table). table_fault x t ≡ None) (sym (append_assoc before (u ∷ []) ts)) free))
 
-named_more : (before cs : List BundleChannel) (c : BundleChannel) → AreNamed before cs → is_short_name c.name ≡ true → has_channel (before ++ cs) c.name ≡ false → AreNamed before (cs ++ c ∷ [])
-named_more before [] c h name new = (name, subst (λ (x : List BundleChannel). has_channel x c.name ≡ false) (append-nil before) new, tt)
-named_more before (d ∷ cs) c h name new = (h.0, h.1, named_more (before ++ d ∷ []) cs c h.2 name (subst (λ (x : List BundleChannel). has_channel x c.name ≡ false) (sym (append_assoc before (d ∷ []) cs)) new))
+named_more : (limits : Limits) (before cs : List BundleChannel) (c : BundleChannel) → AreNamed limits before cs → is_named limits c.name ≡ true → has_channel (before ++ cs) c.name ≡ false → AreNamed limits before (cs ++ c ∷ [])
+named_more limits before [] c h name new = (name, subst (λ (x : List BundleChannel). has_channel x c.name ≡ false) (append-nil before) new, tt)
+named_more limits before (d ∷ cs) c h name new = (h.0, h.1, named_more limits (before ++ d ∷ []) cs c h.2 name (subst (λ (x : List BundleChannel). has_channel x c.name ≡ false) (sym (append_assoc before (d ∷ []) cs)) new))
 
-brought_more : (tables : List Table) (cs : List BundleChannel) (js : List JournalValue) (c : BundleChannel) (j : JournalValue) → AreBrought tables cs js → IsWrittenIn tables j → AreBrought tables (cs ++ c ∷ []) (js ++ j ∷ [])
-brought_more tables [] [] c j h w = (w, tt)
-brought_more tables (d ∷ cs) (k ∷ js) c j h w = (h.0, brought_more tables cs js c j h.1 w)
-brought_more tables cs js c j h w = absurd h
+brought_more : (limits : Limits) (tables : List Table) (cs : List BundleChannel) (js : List JournalValue) (c : BundleChannel) (j : JournalValue) → AreBrought limits tables cs js → IsWrittenIn limits tables j → AreBrought limits tables (cs ++ c ∷ []) (js ++ j ∷ [])
+brought_more limits tables [] [] c j h w = (w, tt)
+brought_more limits tables (d ∷ cs) (k ∷ js) c j h w = (h.0, brought_more limits tables cs js c j h.1 w)
+brought_more limits tables cs js c j h w = absurd h
 
-channels_more : (version : Version) (tables : List Table) (cs : List BundleChannel) (all : List (List ℕ)) (js : List JournalValue) (c : BundleChannel) (stamps : List ℕ) (j : JournalValue) → AreBrought tables cs js → length all ≡ length js
+channels_more : (version : Version) (tables : List Table) (cs : List BundleChannel) (all : List (List ℕ)) (js : List JournalValue) (c : BundleChannel) (stamps : List ℕ) (j : JournalValue) → AreBrought (limits_of version) tables cs js → length all ≡ length js
     → channels_lines version (cs ++ c ∷ []) (all ++ stamps ∷ []) (js ++ j ∷ []) ≡ channels_lines version cs all js ++ channel_lines version c stamps j
 channels_more version tables [] [] [] c stamps j h e = append-nil (channel_lines version c stamps j)
 channels_more version tables (d ∷ cs) (ks ∷ all) (k ∷ js) c stamps j h e =
@@ -157,7 +157,7 @@ record Front (due : Option Version) (version : Version) (rows : List TableRow) (
   lines : old ≡ front version rows b
 
 -- the tables as a bundle without rows and channels
-pub tables_written : (version : Version) (replica : ℕ) (opened : Gtids) (tables : List Table) → IsSource replica → IsOpeningSet version opened → AreAdded [] tables → IsWrittenBundle version [] (bare replica opened tables)
+pub tables_written : (version : Version) (replica : ℕ) (opened : Gtids) (tables : List Table) → IsSource replica → IsOpeningSet version opened → AreAdded (limits_of version) [] tables → IsWrittenBundle version [] (bare replica opened tables)
 tables_written version replica opened tables small is added = record { replica = small; opened = is; tables = added; opening = record { fit = tt; writable = refl; put = refl }; named = tt; few = omega arith; brought = tt }
 
 pub tables_front : (version : Version) (replica : ℕ) (opened : Gtids) (tables : List Table) → tables_lines version replica opened tables ≡ front version [] (bare replica opened tables)
@@ -172,7 +172,7 @@ abbrev with_put : BundleStanding → Rows → BundleStanding
 with_put s rows = record s { bundle = record s.bundle { start = with_rows s.bundle.start rows } }
 
 -- one row more
-row_keeps_in : (due : Option Version) (version : Version) (tables : List Table) (rows : List TableRow) (b : BundleValue) (r : TableRow) (channel : Option BundleChannel) (draft : Standing) (old : List BundleLine) (new : Rows) → Front due version rows b old → NoChannel b → FitsRow r → is_image_writable Narrow r.row ≡ true → with_opening b.start r ≡ Ok new
+row_keeps_in : (due : Option Version) (version : Version) (tables : List Table) (rows : List TableRow) (b : BundleValue) (r : TableRow) (channel : Option BundleChannel) (draft : Standing) (old : List BundleLine) (new : Rows) → Front due version rows b old → NoChannel b → FitsRow (limits_of version) r → is_image_writable (limits_of version) r.row ≡ true → with_opening b.start r ≡ Ok new
     → KeepsBundle due old (Own (Puts r)) (with_put (state parts.Rows due version tables b channel draft) new)
 row_keeps_in due version tables rows b r channel draft old new f none fit writable put =
     let c : BundleValue = record b { start = with_rows b.start new } in
@@ -196,7 +196,7 @@ row_keeps_in due version tables rows b r channel draft old new f none fit writab
             replica = w.replica;
             opened = w.opened;
             tables = w.tables;
-            opening = record { fit = all_append FitsRow rows (r ∷ []) o.fit (fit, tt); writable = all_push (λ x. is_image_writable Narrow x.row) rows r o.writable writable; put = put_more (record { schema = b.start.schema; rows = map_of.empty }) rows r b.start.rows new o.put put };
+            opening = record { fit = all_append (FitsRow (limits_of version)) rows (r ∷ []) o.fit (fit, tt); writable = all_push (λ x. is_image_writable (limits_of version) x.row) rows r o.writable writable; put = put_more (record { schema = b.start.schema; rows = map_of.empty }) rows r b.start.rows new o.put put };
             named = w.named;
             few = w.few;
             brought = w.brought;
@@ -210,8 +210,9 @@ row_keeps_in due version tables rows b r channel draft old new f none fit writab
 pub none_right : (version : Version) (tables : List Table) → right_stamps version tables [] ≡ []
 none_right One tables = refl
 none_right Two tables = refl
+none_right Three tables = refl
 
-open_keeps_in : (due : Option Version) (version : Version) (tables : List Table) (rows : List TableRow) (b : BundleValue) (c : BundleChannel) (old : List BundleLine) → Front due version rows b old → is_short_name c.name ≡ true → length b.channels < 256 → has_channel b.channels c.name ≡ false
+open_keeps_in : (due : Option Version) (version : Version) (tables : List Table) (rows : List TableRow) (b : BundleValue) (c : BundleChannel) (old : List BundleLine) → Front due version rows b old → is_named (limits_of version) c.name ≡ true → length b.channels < 256 → has_channel b.channels c.name ≡ false
     → KeepsBundle due old (Own (Opens c)) (state parts.Journal due version tables b (Some c) (empty (Some version)))
 open_keeps_in due version tables rows b c old f name room new = record {
   rows = rows;
@@ -225,16 +226,16 @@ done_keeps_in due version tables rows b old channel draft f = record { rows = ro
 
 -- ---- what a line of its own makes, or why it is not taken
 
-opening_cause : (s : BundleStanding) (line : List ℕ) (r : TableRow) → ParsesAsLine (own_wording s) line (Puts r) → is_image_writable Narrow r.row ≡ true → (c : Cause) → (with_opening (after_tables s).bundle.start r ≡ Err c) × IsSchema c → HasCauseBy (own_wording s) line c
+opening_cause : (s : BundleStanding) (line : List ℕ) (r : TableRow) → ParsesAsLine (own_wording s) line (Puts r) → is_image_writable (limits_of s.version) r.row ≡ true → (c : Cause) → (with_opening (after_tables s).bundle.start r ≡ Err c) × IsSchema c → HasCauseBy (own_wording s) line c
 opening_cause s line r k writable causes.Schema e = (Puts r, k, λ long. (let m = sym long ∙ writable in cc), λ rows h. (let m = sym h ∙ e.0 in cc))
 opening_cause s line r k writable c e = absurd e.1
 
 puts_both : (s : BundleStanding) (line : List ℕ) (r : TableRow) (P : BundleStanding → Type 0) → ParsesAsLine (own_wording s) line (Puts r)
-    → (is_image_writable Narrow r.row ≡ true → (rows : Rows) → with_opening (after_tables s).bundle.start r ≡ Ok rows → P (with_put (after_tables s) rows)) → MatchResult (own_put s (Puts r)) P (HasCauseBy (own_wording s) line)
+    → (is_image_writable (limits_of s.version) r.row ≡ true → (rows : Rows) → with_opening (after_tables s).bundle.start r ≡ Ok rows → P (with_put (after_tables s) rows)) → MatchResult (own_put s (Puts r)) P (HasCauseBy (own_wording s) line)
 unfolding own_put put_row
 puts_both s line r P k more =
     let put = with_opening (after_tables s).bundle.start r in
-    if_both P (HasCauseBy (own_wording s) line) (is_image_writable Narrow r.row) _ _
+    if_both P (HasCauseBy (own_wording s) line) (is_image_writable (limits_of s.version) r.row) _ _
     (λ writable. then_both P (HasCauseBy (own_wording s) line) put _
     (MatchResult-weaker put (known_both put _ _ (put_both (after_tables s).bundle.start r)) (λ rows e. e.0) (opening_cause s line r k writable)) (more writable))
     (λ long. (Puts r, k, long))
@@ -247,7 +248,7 @@ opens_both s line c P k more =
     (λ room. if_both P (HasCauseBy (own_wording s) line) (has_channel s.bundle.channels c.name) _ _ (λ again. (Opens c, k, λ full. (let m = sym (le-leb 256 (length s.bundle.channels) full) ∙ room in cc), again))
     (λ new. more (leb-false 256 (length s.bundle.channels) room) new))
 
-table_cause : (s : BundleStanding) (line : List ℕ) (shape : Shape) → ParsesAsLine (own_wording s) line (Has shape) → (c : Cause) → TableErr s.tables shape c → HasCauseBy (own_wording s) line c
+table_cause : (s : BundleStanding) (line : List ℕ) (shape : Shape) → ParsesAsLine (own_wording s) line (Has shape) → (c : Cause) → TableErr (limits_of s.version) s.tables shape c → HasCauseBy (own_wording s) line c
 unfolding TableErr
 table_cause s line shape k causes.Limit h = (Has shape, k, h)
 table_cause s line shape k causes.Schema h = (Has shape, k, h.0, h.1)
@@ -263,25 +264,32 @@ keeps_own parts.Replica due One tables rows b channel draft line (Names id) h is
   rows = [];
   same_due = refl;
   says = ap (λ (ts : List Table). tables_lines One id set.empty ts) h.none;
-  sound = record { due_version = h.due_version; replica = k.fits; opened = refl; added = subst (AreAdded []) (sym h.none) tt };
+  sound = record { due_version = h.due_version; replica = k.fits; opened = refl; added = subst (AreAdded (limits_of One) []) (sym h.none) tt };
 }
 keeps_own parts.Replica due Two tables rows b channel draft line (Names id) h is k = record { rows = []; same_due = refl; says = refl; sound = (h, refl, k.fits) }
+keeps_own parts.Replica due Three tables rows b channel draft line (Names id) h is k = record { rows = []; same_due = refl; says = refl; sound = (h, refl, k.fits) }
 keeps_own parts.Opening due One tables rows b channel draft line (Starts p) h is k = absurd (let n = h.1 in cc)
 keeps_own parts.Opening due Two tables rows b channel draft line (Starts p) h is k = record {
   rows = [];
   same_due = refl;
   says = ap (λ (ts : List Table). tables_lines Two b.replica p ts) h.0.none;
-  sound = record { due_version = h.0.due_version; replica = h.2; opened = k.fits; added = subst (AreAdded []) (sym h.0.none) tt };
+  sound = record { due_version = h.0.due_version; replica = h.2; opened = k.fits; added = subst (AreAdded (limits_of Two) []) (sym h.0.none) tt };
+}
+keeps_own parts.Opening due Three tables rows b channel draft line (Starts p) h is k = record {
+  rows = [];
+  same_due = refl;
+  says = ap (λ (ts : List Table). tables_lines Three b.replica p ts) h.0.none;
+  sound = record { due_version = h.0.due_version; replica = h.2; opened = k.fits; added = subst (AreAdded (limits_of Three) []) (sym h.0.none) tt };
 }
 keeps_own parts.Tables due version tables rows b channel draft line (Has shape) h is k =
     let s = state parts.Tables due version tables b channel draft in
     let before = Own (Heads version) ∷ Own (Names b.replica) ∷ opening_set_lines version b.opened in
-    then_both _ _ (with_table tables shape) _ (MatchResult-weaker (with_table tables shape) (with_both tables shape k.fits) (λ ts f. f) (table_cause s line shape k))
+    then_both _ _ (with_table (limits_of version) tables shape) _ (MatchResult-weaker (with_table (limits_of version) tables shape) (with_both (limits_of version) tables shape k.fits) (λ ts f. f) (table_cause s line shape k))
     (λ ts f. subst (λ (x : List Table). KeepsBundle due (tables_lines version b.replica b.opened tables) (Own (Has shape)) (state parts.Tables due version x b channel draft)) f.after (record {
       rows = [];
       same_due = refl;
       says = ap (λ (ls : List BundleLine). before ++ ls) (map_push (λ x. Own (Has (shape_for x))) tables f.table ∙ ap (λ (x : Shape). table_lines tables ++ Own (Has x) ∷ []) (sym f.shape)) ∙ sym (append_assoc before (table_lines tables) (Own (Has shape) ∷ []));
-      sound = record { due_version = h.due_version; replica = h.replica; opened = h.opened; added = added_more [] tables f.table h.added f.fits f.free };
+      sound = record { due_version = h.due_version; replica = h.replica; opened = h.opened; added = added_more (limits_of version) [] tables f.table h.added f.fits f.free };
     }))
 keeps_own parts.Tables due version tables rows b channel draft line (Puts r) h is k =
     puts_both (state parts.Tables due version tables b channel draft) line r _ k (λ writable new put. row_keeps_in due version [] [] (bare b.replica b.opened tables) r channel draft (tables_lines version b.replica b.opened tables) new (front_of due version tables b h) (record { channels = refl; journals = refl }) k.fits writable put)
@@ -312,19 +320,19 @@ pub record InnerTaken (due : Option Version) (old : List BundleLine) (line : Lis
   pub keeps : KeepsBundle due old l t
 
 -- a bundle with one channel more
-pub channel_written : (version : Version) (rows : List TableRow) (b : BundleValue) (c : BundleChannel) (draft : Standing) (j : JournalValue) → IsWrittenBundle version rows b → IsOpen version b c draft → IsWritten j → list_all (entry_fits b.start.schema) j.entries ≡ true → IsWrittenBundle version rows (with_journal (Some c) b j)
+pub channel_written : (version : Version) (rows : List TableRow) (b : BundleValue) (c : BundleChannel) (draft : Standing) (j : JournalValue) → IsWrittenBundle version rows b → IsOpen version b c draft → IsWritten (limits_of version) j → list_all (entry_fits b.start.schema) j.entries ≡ true → IsWrittenBundle version rows (with_journal (Some c) b j)
 channel_written version rows b c draft j w o written fitting = record {
   replica = w.replica;
   opened = w.opened;
   tables = w.tables;
   opening = w.opening;
-  named = named_more [] b.channels c w.named o.name o.new;
+  named = named_more (limits_of version) [] b.channels c w.named o.name o.new;
   few = omega (arith, o.room, length-append b.channels (c ∷ []));
-  brought = brought_more b.start.schema b.channels b.journals c j w.brought (record { written = written; fitting = fitting });
+  brought = brought_more (limits_of version) b.start.schema b.channels b.journals c j w.brought (record { written = written; fitting = fitting });
 }
 
 -- its lines, with any numbers of the last journal
-pub channel_front : (version : Version) (rows : List TableRow) (b : BundleValue) (c : BundleChannel) (stamps : List ℕ) (j : JournalValue) → AreBrought b.start.schema b.channels b.journals
+pub channel_front : (version : Version) (rows : List TableRow) (b : BundleValue) (c : BundleChannel) (stamps : List ℕ) (j : JournalValue) → AreBrought (limits_of version) b.start.schema b.channels b.journals
     → bundle_front version rows (all_stamps version b.start.schema b.journals ++ stamps ∷ []) (with_journal (Some c) b j) ≡ front version rows b ++ channel_lines version c stamps j
 channel_front version rows b c stamps j h =
     let start = start_lines version rows b in
@@ -333,7 +341,7 @@ channel_front version rows b c stamps j h =
     ∙ sym (append_assoc start (channels_lines version b.channels all b.journals) (channel_lines version c stamps j))
 
 -- with the numbers that it has to have
-pub right_front : (version : Version) (rows : List TableRow) (b : BundleValue) (c : BundleChannel) (stamps : List ℕ) (j : JournalValue) → AreBrought b.start.schema b.channels b.journals → stamps ≡ right_stamps version b.start.schema j.entries
+pub right_front : (version : Version) (rows : List TableRow) (b : BundleValue) (c : BundleChannel) (stamps : List ℕ) (j : JournalValue) → AreBrought (limits_of version) b.start.schema b.channels b.journals → stamps ≡ right_stamps version b.start.schema j.entries
     → front version rows (with_journal (Some c) b j) ≡ front version rows b ++ channel_lines version c stamps j
 right_front version rows b c stamps j h e =
     (λ i. bundle_front version rows (map_push (λ k. right_stamps version b.start.schema k.entries) b.journals j i) (with_journal (Some c) b j))
@@ -344,8 +352,13 @@ right_front version rows b c stamps j h e =
 pub version_is : (v w : Version) → takes (Some v) w ≡ true → w ≡ v
 version_is One One e = refl
 version_is Two Two e = refl
+version_is Three Three e = refl
 version_is One Two e = absurd cc
+version_is One Three e = absurd cc
 version_is Two One e = absurd cc
+version_is Two Three e = absurd cc
+version_is Three One e = absurd cc
+version_is Three Two e = absurd cc
 
 closed_keeps : (due : Option Version) (version : Version) (tables : List Table) (rows : List TableRow) (b : BundleValue) (c : BundleChannel) (old d : Standing) (l : Line) → IsDueBundle due version rows b → IsOpen version b c old → lines_so_far d ≡ lines_so_far old ++ l ∷ [] → IsSound (Some b.start.schema) d → d.due ≡ Some version
     → d.stamps ≡ right_stamps version b.start.schema d.journal.entries → is_last d.place ≡ true
@@ -360,7 +373,7 @@ closed_keeps due version tables rows b c old d l w o says sound same stamped las
       says = right_front version rows b c d.stamps d.journal w.written.brought stamped
           ∙ ap (λ (ls : List Line). front version rows b ++ (Own (Opens c) ∷ map Inner ls)) (sym lines)
           ∙ inner_more c (front version rows b) (lines_so_far old) (lines_so_far d) l says;
-      sound = record { due_version = w.due_version; written = channel_written version rows b c old d.journal w.written o e.written e.whole.fitting };
+      sound = record { due_version = w.due_version; written = channel_written version rows b c old d.journal w.written o (subst (λ (v : Version). IsWritten (limits_of v) d.journal) is e.written) e.whole.fitting };
     }
 
 open_still : (due : Option Version) (version : Version) (tables : List Table) (rows : List TableRow) (b : BundleValue) (c : BundleChannel) (old d : Standing) (l : Line) → IsDueBundle due version rows b → IsOpen version b c old → lines_so_far d ≡ lines_so_far old ++ l ∷ [] → IsSound (Some b.start.schema) d → d.due ≡ Some version
@@ -392,6 +405,7 @@ ends_entry s d Close due goes within out = absurd (let p = within_is s.place wit
 right_more : (version : Version) (tables : List Table) (es : List Entry) (e : Entry) → right_stamps version tables (es ++ e ∷ []) ≡ right_stamps version tables es ++ right_stamp version tables es e ∷ []
 right_more One tables es e = map_push (λ x. 0) es e
 right_more Two tables es e = each_last_committed_more tables [] es e
+right_more Three tables es e = each_last_committed_more tables [] es e
 
 same_stamps : (version : Version) (tables : List Table) (s d : Standing) → SameEntries s d → s.stamps ≡ right_stamps version tables s.journal.entries → d.stamps ≡ right_stamps version tables d.journal.entries
 same_stamps version tables s d same e = same.stamps ∙ e ∙ ap (right_stamps version tables) (sym same.entries)
@@ -458,7 +472,7 @@ own_taken : (part : Part) (due : Option Version) (version : Version) (tables : L
     → MatchResult (judge_own (state part due version tables b channel draft) line) (InnerTaken due (bundle_lines_so_far rows (state part due version tables b channel draft)) line) (HasCauseBy (own_wording (state part due version tables b channel draft)) line)
 own_taken part due version tables rows b channel draft line h =
     let s = state part due version tables b channel draft in
-    rw (own_reads s line) (judged_both (own_wording s) (own_body s.due) (own_laws s) (InnerTaken due (bundle_lines_so_far rows s) line) (own_put s) line
+    rw (own_reads s line) (judged_both (own_wording s) (own_body s.due (limits_of s.version)) (own_laws s) (InnerTaken due (bundle_lines_so_far rows s) line) (own_put s) line
     (λ l k. MatchResult-weaker (own_put s l) (keeps_own part due version tables rows b channel draft line l h k.due k) (λ t m. record { l = Own l; text = k.text; keeps = m }) (λ c m. m)))
 
 taken_at : (part : Part) (due : Option Version) (version : Version) (tables : List Table) (rows : List TableRow) (b : BundleValue) (channel : Option BundleChannel) (draft : Standing) (line : List ℕ) → SoundAt part due version tables rows b channel draft

@@ -1,5 +1,5 @@
 -- Lines of bundles that are written one after another.
-use Rattle.std.proofs.Common.{◌≡◌, ℕ, min, ◌≤◌, ◌-◌, Bool, true, false, List, [], ◌∷◌, ◌++◌, length, map, take, drop, get_or, refl, sym, ap, ◌∙◌, append_assoc, arith}
+use Rattle.std.proofs.Common.{◌≡◌, ℕ, zero, suc, min, ◌≤◌, ◌-◌, Bool, true, false, List, [], ◌∷◌, ◌++◌, length, map, take, drop, get_or, refl, sym, ap, ◌∙◌, append_assoc, arith}
 use Rattle.std.specs.Prelude.{codes, decimal}
 use Rattle.std.proofs.lemmas.List.{append-nil, take_rest, length-drop}
 use Rattle.std.proofs.lemmas.List.Concat.{flat_map-append}
@@ -10,33 +10,34 @@ use Rattle.rows.specs.declared.schema.Table.{Table}
 use Rattle.journal.specs.Journals.{JournalValue}
 use Rattle.row_images.specs.Parts.{joined_by}
 use Rattle.txn_journal.specs.Splits.{columns_text}
-use Rattle.txn_journal.specs.Shapes.{unique_words, shape_for}
+use Rattle.txn_journal.specs.Shapes.{unique_words, hidden_words, hidden_text, shape_for}
 use Rattle.txn_journal.specs.Stamps.{right_stamps, all_stamps}
 use Rattle.txn_journal.specs.Spelling.{Line, ended_line, lines_text, journal_lines, spelling_as}
 use Rattle.txn_journal.specs.BundleStates.{BundleValue}
 use Rattle.txn_journal.specs.WrittenSets.{set_text}
-use Rattle.txn_journal.specs.BundleText.{Heads, Names, Starts, Has, Puts, Opens, Done, BundleLine, Own, Inner, preserve_text, ended_bundle_line, bundle_text, table_lines, row_lines, channel_lines, channels_lines, start_lines, bundle_spelling}
-use Rattle.txn_journal.specs.Texts.{columns_behind, uniques_text, tables_text, rows_text, channel_and_journal_text, channels_and_journals_text, head_text, start_text}
+use Rattle.txn_journal.specs.BundleText.{Heads, Names, Starts, Has, Puts, Opens, Done, BundleLine, Own, Inner, preserve_text, ended_bundle_line, bundle_text, table_lines, row_lines, channel_lines, channels_lines, opening_set_lines, start_lines, bundle_spelling}
+use Rattle.txn_journal.specs.Texts.{columns_behind, uniques_text, hidden_part, tables_text, rows_text, channel_and_journal_text, channels_and_journals_text, head_text, start_text}
 use Rattle.txn_journal.specs.declared.bundle.BundleChannel.{BundleChannel}
-use Rattle.txn_journal.specs.declared.lines.Version.TheVariants.{Two}
+use Rattle.txn_journal.specs.declared.lines.Version.{Version}
 
 -- ---- the first lines
 
 pub replica_appended : (out : List ℕ) (replica : ℕ) → ((out ++ codes "replica ") ++ source_text replica) ++ codes "\n" ≡ out ++ ended_bundle_line (Own (Names replica))
 replica_appended out replica = simp append_assoc
 
-pub opened_appended : (out : List ℕ) (s : Gtids) → ((out ++ codes "opening ") ++ set_text s) ++ codes "\n" ≡ out ++ ended_bundle_line (Own (Starts s))
-opened_appended out s = simp append_assoc
+opened_line : (out : List ℕ) (s : Gtids) → ((out ++ codes "opening ") ++ set_text s) ++ codes "\n" ≡ out ++ ended_bundle_line (Own (Starts s))
+opened_line out s = simp append_assoc
+
+pub opened_appended : (out : List ℕ) (s : Gtids) → ((out ++ codes "opening ") ++ set_text s) ++ codes "\n" ≡ out ++ bundle_text (Own (Starts s) ∷ [])
+opened_appended out s = opened_line out s ∙ ap (λ (t : List ℕ). out ++ t) (sym (append-nil (ended_bundle_line (Own (Starts s)))))
 
 -- two texts after one another, and a text after both
 both_behind : (out a b c : List ℕ) → ((out ++ a) ++ b) ++ c ≡ out ++ (a ++ (b ++ c))
 both_behind out a b c = simp append_assoc
 
-pub head_appended : (out : List ℕ) (replica : ℕ) (s : Gtids) → ((out ++ codes "bundle 2\n") ++ ended_bundle_line (Own (Names replica))) ++ ended_bundle_line (Own (Starts s)) ≡ out ++ head_text replica s
+pub head_appended : (out : List ℕ) (version : Version) (replica : ℕ) (s : Gtids) → ((out ++ ended_bundle_line (Own (Heads version))) ++ ended_bundle_line (Own (Names replica))) ++ bundle_text (opening_set_lines version s) ≡ out ++ head_text version replica s
 unfolding head_text
-head_appended out replica s =
-    both_behind out (codes "bundle 2\n") (ended_bundle_line (Own (Names replica))) (ended_bundle_line (Own (Starts s)))
-    ∙ ap (λ (t : List ℕ). out ++ (codes "bundle 2\n" ++ (ended_bundle_line (Own (Names replica)) ++ t))) (sym (append-nil (ended_bundle_line (Own (Starts s)))))
+head_appended out version replica s = both_behind out (ended_bundle_line (Own (Heads version))) (ended_bundle_line (Own (Names replica))) (bundle_text (opening_set_lines version s))
 
 -- ---- tables
 
@@ -55,9 +56,15 @@ columns_cut out c (d ∷ ds) some is =
     ∙ ap (λ (t : List ℕ). out ++ t) (sym (first_column d ds))
 
 -- a word, and unique keys after it
-uniques_behind : (word : List ℕ) (us : List (List ℕ)) → joined_by 32 (word ∷ unique_words (map columns_text us)) ≡ word ++ uniques_text us
-uniques_behind word [] = sym (append-nil word)
-uniques_behind word (u ∷ us) = ap (λ (t : List ℕ). word ++ (codes " uk " ++ t)) (uniques_behind (columns_text u) us)
+hidden_after : (word : List ℕ) (hidden : ℕ) → joined_by 32 (word ∷ hidden_words (hidden_text hidden)) ≡ word ++ hidden_part hidden
+hidden_after word zero = sym (append-nil word)
+hidden_after word (suc n) = refl
+
+behind_primary : (word : List ℕ) (us : List (List ℕ)) (hidden : ℕ) → joined_by 32 (word ∷ (unique_words (map columns_text us) ++ hidden_words (hidden_text hidden))) ≡ word ++ (uniques_text us ++ hidden_part hidden)
+behind_primary word [] hidden = hidden_after word hidden
+behind_primary word (u ∷ us) hidden =
+    ap (λ (t : List ℕ). word ++ (codes " uk " ++ t)) (behind_primary (columns_text u) us hidden)
+    ∙ ap (λ (t : List ℕ). word ++ (codes " uk " ++ t)) (sym (append_assoc (columns_text u) (uniques_text us) (hidden_part hidden)))
 
 all_behind : (out a b c d e f end : List ℕ) → ((((((out ++ a) ++ b) ++ c) ++ d) ++ e) ++ f) ++ end ≡ out ++ (a ++ (b ++ (c ++ (d ++ (e ++ (f ++ end))))))
 all_behind out a b c d e f end = simp append_assoc
@@ -70,10 +77,11 @@ table_parts out name columns primary uniques =
     all_behind out (codes "table ") name (32 ∷ columns) (codes " pk ") primary uniques (codes "\n")
     ∙ ap (λ (t : List ℕ). out ++ (codes "table " ++ t)) (sym (end_behind name (32 ∷ columns) (codes " pk ") primary uniques (codes "\n")))
 
-pub table_appended : (out : List ℕ) (t : Table) → ((((((out ++ codes "table ") ++ t.name) ++ 32 ∷ decimal t.columns) ++ codes " pk ") ++ columns_text t.primary) ++ uniques_text t.uniques) ++ codes "\n" ≡ out ++ ended_bundle_line (Own (Has (shape_for t)))
+pub table_appended : (out : List ℕ) (t : Table) → (((((((out ++ codes "table ") ++ t.name) ++ 32 ∷ decimal t.columns) ++ codes " pk ") ++ columns_text t.primary) ++ uniques_text t.uniques) ++ hidden_part t.hidden) ++ codes "\n" ≡ out ++ ended_bundle_line (Own (Has (shape_for t)))
 table_appended out t =
-    table_parts out t.name (decimal t.columns) (columns_text t.primary) (uniques_text t.uniques)
-    ∙ ap (λ (u : List ℕ). out ++ ((codes "table" ++ 32 ∷ (t.name ++ 32 ∷ (decimal t.columns ++ 32 ∷ (codes "pk" ++ 32 ∷ u)))) ++ 10 ∷ [])) (sym (uniques_behind (columns_text t.primary) t.uniques))
+    ap (λ (u : List ℕ). u ++ codes "\n") (append_assoc (((((out ++ codes "table ") ++ t.name) ++ 32 ∷ decimal t.columns) ++ codes " pk ") ++ columns_text t.primary) (uniques_text t.uniques) (hidden_part t.hidden))
+    ∙ table_parts out t.name (decimal t.columns) (columns_text t.primary) (uniques_text t.uniques ++ hidden_part t.hidden)
+    ∙ ap (λ (u : List ℕ). out ++ ((codes "table" ++ 32 ∷ (t.name ++ 32 ∷ (decimal t.columns ++ 32 ∷ (codes "pk" ++ 32 ∷ u)))) ++ 10 ∷ [])) (sym (behind_primary (columns_text t.primary) t.uniques t.hidden))
 
 -- ---- channels
 
@@ -95,28 +103,28 @@ inner_text : (ls : List Line) → bundle_text (map Inner ls) ≡ lines_text ls
 inner_text [] = refl
 inner_text (l ∷ ls) = ap (λ (t : List ℕ). ended_line l ++ t) (inner_text ls)
 
-pub brought_appended : (out : List ℕ) (tables : List Table) (c : BundleChannel) (j : JournalValue) → (out ++ ended_bundle_line (Own (Opens c))) ++ spelling_as Two (right_stamps Two tables j.entries) j ≡ out ++ channel_and_journal_text tables c j
+pub brought_appended : (out : List ℕ) (version : Version) (tables : List Table) (c : BundleChannel) (j : JournalValue) → (out ++ ended_bundle_line (Own (Opens c))) ++ spelling_as version (right_stamps version tables j.entries) j ≡ out ++ channel_and_journal_text version tables c j
 unfolding channel_and_journal_text
-brought_appended out tables c j =
-    append_assoc out (ended_bundle_line (Own (Opens c))) (spelling_as Two (right_stamps Two tables j.entries) j)
-    ∙ ap (λ (t : List ℕ). out ++ (ended_bundle_line (Own (Opens c)) ++ t)) (sym (inner_text (journal_lines Two (right_stamps Two tables j.entries) j)))
+brought_appended out version tables c j =
+    append_assoc out (ended_bundle_line (Own (Opens c))) (spelling_as version (right_stamps version tables j.entries) j)
+    ∙ ap (λ (t : List ℕ). out ++ (ended_bundle_line (Own (Opens c)) ++ t)) (sym (inner_text (journal_lines version (right_stamps version tables j.entries) j)))
 
-none_brought : (tables : List Table) (cs : List BundleChannel) (js : List JournalValue) → min (length cs) (length js) ≡ 0 → channels_and_journals_text tables cs js ≡ []
-none_brought tables [] js none = refl
-none_brought tables (c ∷ cs) [] none = refl
-none_brought tables (c ∷ cs) (j ∷ js) none = absurd (omega arith)
+none_brought : (version : Version) (tables : List Table) (cs : List BundleChannel) (js : List JournalValue) → min (length cs) (length js) ≡ 0 → channels_and_journals_text version tables cs js ≡ []
+none_brought version tables [] js none = refl
+none_brought version tables (c ∷ cs) [] none = refl
+none_brought version tables (c ∷ cs) (j ∷ js) none = absurd (omega arith)
 
 -- no channel or no journal is left
-pub all_brought : (out whole : List ℕ) (tables : List Table) (cs : List BundleChannel) (js : List JournalValue) (n : ℕ) → n ≡ min (length cs) (length js) → out ++ channels_and_journals_text tables (drop n cs) (drop n js) ≡ whole → out ≡ whole
-all_brought out whole tables cs js n is so_far =
+pub all_brought : (out whole : List ℕ) (version : Version) (tables : List Table) (cs : List BundleChannel) (js : List JournalValue) (n : ℕ) → n ≡ min (length cs) (length js) → out ++ channels_and_journals_text version tables (drop n cs) (drop n js) ≡ whole → out ≡ whole
+all_brought out whole version tables cs js n is so_far =
     let none : min (length (drop n cs)) (length (drop n js)) ≡ 0 = rw (length-drop n cs, length-drop n js) omega (arith, is) in
-    sym (ap (λ (t : List ℕ). out ++ t) (none_brought tables (drop n cs) (drop n js) none) ∙ append-nil out) ∙ so_far
+    sym (ap (λ (t : List ℕ). out ++ t) (none_brought version tables (drop n cs) (drop n js) none) ∙ append-nil out) ∙ so_far
 
 -- ---- the whole
 
-pub start_appended : (out : List ℕ) (replica : ℕ) (opened : Gtids) (tables : List Table) (rows : List TableRow) → ((out ++ head_text replica opened) ++ tables_text tables) ++ rows_text rows ≡ out ++ start_text replica opened tables rows
+pub start_appended : (out : List ℕ) (version : Version) (replica : ℕ) (opened : Gtids) (tables : List Table) (rows : List TableRow) → ((out ++ head_text version replica opened) ++ tables_text tables) ++ rows_text rows ≡ out ++ start_text version replica opened tables rows
 unfolding start_text
-start_appended out replica opened tables rows = both_behind out (head_text replica opened) (tables_text tables) (rows_text rows)
+start_appended out version replica opened tables rows = both_behind out (head_text version replica opened) (tables_text tables) (rows_text rows)
 
 both_lines : (a b : List BundleLine) → bundle_text (a ++ b) ≡ bundle_text a ++ bundle_text b
 both_lines a b = flat_map-append ended_bundle_line a b
@@ -129,34 +137,34 @@ lines_of_rows : (rows : List TableRow) → rows_text rows ≡ bundle_text (row_l
 lines_of_rows [] = refl
 lines_of_rows (r ∷ rs) = ap (λ (u : List ℕ). ended_bundle_line (Own (Puts r)) ++ u) (lines_of_rows rs)
 
-lines_of_channels : (tables : List Table) (cs : List BundleChannel) (js : List JournalValue) → channels_and_journals_text tables cs js ≡ bundle_text (channels_lines Two cs (all_stamps Two tables js) js)
+lines_of_channels : (version : Version) (tables : List Table) (cs : List BundleChannel) (js : List JournalValue) → channels_and_journals_text version tables cs js ≡ bundle_text (channels_lines version cs (all_stamps version tables js) js)
 unfolding channel_and_journal_text
-lines_of_channels tables [] js = refl
-lines_of_channels tables (c ∷ cs) [] = refl
-lines_of_channels tables (c ∷ cs) (j ∷ js) =
-    ap (λ (u : List ℕ). bundle_text (channel_lines Two c (right_stamps Two tables j.entries) j) ++ u) (lines_of_channels tables cs js)
-    ∙ sym (both_lines (channel_lines Two c (right_stamps Two tables j.entries) j) (channels_lines Two cs (all_stamps Two tables js) js))
+lines_of_channels version tables [] js = refl
+lines_of_channels version tables (c ∷ cs) [] = refl
+lines_of_channels version tables (c ∷ cs) (j ∷ js) =
+    ap (λ (u : List ℕ). bundle_text (channel_lines version c (right_stamps version tables j.entries) j) ++ u) (lines_of_channels version tables cs js)
+    ∙ sym (both_lines (channel_lines version c (right_stamps version tables j.entries) j) (channels_lines version cs (all_stamps version tables js) js))
 
-lines_of_start : (rows : List TableRow) (b : BundleValue) → start_text b.replica b.opened b.start.schema rows ≡ bundle_text (start_lines Two rows b)
+lines_of_start : (version : Version) (rows : List TableRow) (b : BundleValue) → start_text version b.replica b.opened b.start.schema rows ≡ bundle_text (start_lines version rows b)
 unfolding start_text head_text
-lines_of_start rows b =
-    let head : List BundleLine = Own (Heads Two) ∷ Own (Names b.replica) ∷ Own (Starts b.opened) ∷ [] in
+lines_of_start version rows b =
+    let head : List BundleLine = Own (Heads version) ∷ Own (Names b.replica) ∷ opening_set_lines version b.opened in
     sym (append_assoc (bundle_text head) (tables_text b.start.schema) (rows_text rows))
     ∙ ap (λ (u : List ℕ). (bundle_text head ++ u) ++ rows_text rows) (lines_of_tables b.start.schema)
     ∙ ap (λ (u : List ℕ). (bundle_text head ++ bundle_text (table_lines b.start.schema)) ++ u) (lines_of_rows rows)
     ∙ ap (λ (u : List ℕ). u ++ bundle_text (row_lines rows)) (sym (both_lines head (table_lines b.start.schema)))
     ∙ sym (both_lines (head ++ table_lines b.start.schema) (row_lines rows))
 
-lines_of_bundle : (rows : List TableRow) (b : BundleValue) → (start_text b.replica b.opened b.start.schema rows ++ channels_and_journals_text b.start.schema b.channels b.journals) ++ codes "done\n" ≡ bundle_spelling Two rows b
-lines_of_bundle rows b =
-    let brought : List BundleLine = channels_lines Two b.channels (all_stamps Two b.start.schema b.journals) b.journals in
-    ap (λ (u : List ℕ). (u ++ channels_and_journals_text b.start.schema b.channels b.journals) ++ codes "done\n") (lines_of_start rows b)
-    ∙ ap (λ (u : List ℕ). (bundle_text (start_lines Two rows b) ++ u) ++ codes "done\n") (lines_of_channels b.start.schema b.channels b.journals)
-    ∙ ap (λ (u : List ℕ). u ++ codes "done\n") (sym (both_lines (start_lines Two rows b) brought))
-    ∙ sym (both_lines (start_lines Two rows b ++ brought) (Own Done ∷ []))
+lines_of_bundle : (version : Version) (rows : List TableRow) (b : BundleValue) → (start_text version b.replica b.opened b.start.schema rows ++ channels_and_journals_text version b.start.schema b.channels b.journals) ++ codes "done\n" ≡ bundle_spelling version rows b
+lines_of_bundle version rows b =
+    let brought : List BundleLine = channels_lines version b.channels (all_stamps version b.start.schema b.journals) b.journals in
+    ap (λ (u : List ℕ). (u ++ channels_and_journals_text version b.start.schema b.channels b.journals) ++ codes "done\n") (lines_of_start version rows b)
+    ∙ ap (λ (u : List ℕ). (bundle_text (start_lines version rows b) ++ u) ++ codes "done\n") (lines_of_channels version b.start.schema b.channels b.journals)
+    ∙ ap (λ (u : List ℕ). u ++ codes "done\n") (sym (both_lines (start_lines version rows b) brought))
+    ∙ sym (both_lines (start_lines version rows b ++ brought) (Own Done ∷ []))
 
-pub bundle_appended : (out : List ℕ) (rows : List TableRow) (b : BundleValue) → ((out ++ start_text b.replica b.opened b.start.schema rows) ++ channels_and_journals_text b.start.schema b.channels b.journals) ++ codes "done\n" ≡ out ++ bundle_spelling Two rows b
-bundle_appended out rows b =
-    ap (λ (u : List ℕ). u ++ codes "done\n") (append_assoc out (start_text b.replica b.opened b.start.schema rows) (channels_and_journals_text b.start.schema b.channels b.journals))
-    ∙ append_assoc out (start_text b.replica b.opened b.start.schema rows ++ channels_and_journals_text b.start.schema b.channels b.journals) (codes "done\n")
-    ∙ ap (λ (u : List ℕ). out ++ u) (lines_of_bundle rows b)
+pub bundle_appended : (out : List ℕ) (version : Version) (rows : List TableRow) (b : BundleValue) → ((out ++ start_text version b.replica b.opened b.start.schema rows) ++ channels_and_journals_text version b.start.schema b.channels b.journals) ++ codes "done\n" ≡ out ++ bundle_spelling version rows b
+bundle_appended out version rows b =
+    ap (λ (u : List ℕ). u ++ codes "done\n") (append_assoc out (start_text version b.replica b.opened b.start.schema rows) (channels_and_journals_text version b.start.schema b.channels b.journals))
+    ∙ append_assoc out (start_text version b.replica b.opened b.start.schema rows ++ channels_and_journals_text version b.start.schema b.channels b.journals) (codes "done\n")
+    ∙ ap (λ (u : List ℕ). out ++ u) (lines_of_bundle version rows b)

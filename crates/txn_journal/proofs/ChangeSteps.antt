@@ -7,7 +7,8 @@ use Rattle.gtid_set.proofs.FaultLemmas.{fault_map}
 use Rattle.rows.specs.declared.change.Change.{Change}
 use Rattle.rows.specs.declared.change.Change.TheVariants.{Insert, Delete, Update}
 use Rattle.rows.specs.declared.schema.Table.{Table}
-use Rattle.rows.specs.declared.limits.Limits.TheVariants.{Narrow}
+use Rattle.rows.specs.Limits.{most_changes}
+use Rattle.txn_journal.specs.Versions.{limits_of}
 use Rattle.journal.specs.Writing.{is_change_writable}
 use Rattle.row_images.specs.Words.{first_word, others}
 use Rattle.txn_journal.specs.Due.{is_due}
@@ -32,19 +33,19 @@ use Rattle.txn_journal.proofs.Judged.{if_both, two_steps, bind_ok, done}
 
 -- ---- in a journal
 
-step_adds : (schema : Option (List Table)) (s : Standing) (k : Keyword) (rest : Option (List ℕ)) (c : Change) → change_at k rest ≡ Ok c → step schema s k rest ≡ add schema s c
+step_adds : (schema : Option (List Table)) (s : Standing) (k : Keyword) (rest : Option (List ℕ)) (c : Change) → change_at (limits_of s.version) k rest ≡ Ok c → step schema s k rest ≡ add schema s c
 unfolding step change_at
-step_adds schema s keywords.Ins rest c e = two_steps (table_in rest) (λ table. image_in table.1) (λ table after. Insert table.0 after) (add schema s) ∙ ap (λ (r : Result Change Cause). r >>= add schema s) e
-step_adds schema s keywords.Del rest c e = two_steps (table_in rest) (λ table. image_in table.1) (λ table before. Delete table.0 before) (add schema s) ∙ ap (λ (r : Result Change Cause). r >>= add schema s) e
-step_adds schema s keywords.Upd rest c e = two_steps (table_in rest) (λ table. images_in table.1) (λ table images. Update table.0 images.0 images.1) (add schema s) ∙ ap (λ (r : Result Change Cause). r >>= add schema s) e
+step_adds schema s keywords.Ins rest c e = two_steps (table_in (limits_of s.version) rest) (λ table. image_in table.1) (λ table after. Insert table.0 after) (add schema s) ∙ ap (λ (r : Result Change Cause). r >>= add schema s) e
+step_adds schema s keywords.Del rest c e = two_steps (table_in (limits_of s.version) rest) (λ table. image_in table.1) (λ table before. Delete table.0 before) (add schema s) ∙ ap (λ (r : Result Change Cause). r >>= add schema s) e
+step_adds schema s keywords.Upd rest c e = two_steps (table_in (limits_of s.version) rest) (λ table. images_in table.1) (λ table images. Update table.0 images.0 images.1) (add schema s) ∙ ap (λ (r : Result Change Cause). r >>= add schema s) e
 step_adds schema s k rest c e = absurd cc
 
 -- a line within an entry adds the change that it writes
-judge_adds : (schema : Option (List Table)) (s : Standing) (line : List ℕ) (c : Change) → change_in line ≡ Ok c → s.place ≡ places.Within → judge schema s line ≡ add schema s c
+judge_adds : (schema : Option (List Table)) (s : Standing) (line : List ℕ) (c : Change) → change_in (limits_of s.version) line ≡ Ok c → s.place ≡ places.Within → judge schema s line ≡ add schema s c
 unfolding judge change_in
 judge_adds schema s line c e within =
     let word = keyword_of (first_word line) in
-    let a = bind_ok (due (is_due places.Within) word) (λ w. change_at w (others line)) c e in
+    let a = bind_ok (due (is_due places.Within) word) (λ w. change_at (limits_of s.version) w (others line)) c e in
     ap (λ (p : LinePlace). due (is_due p) word >>= λ w. step schema s w (others line)) within
     ∙ ap (λ (r : Result Keyword Cause). r >>= λ w. step schema s w (others line)) a.1
     ∙ step_adds schema s a.0 (others line) c a.2
@@ -55,7 +56,7 @@ stays_open s r = MatchResult r (λ d. d.place ≡ s.place) (λ cause. Unit {0})
 added_stays : (schema : Option (List Table)) (s : Standing) (c : Change) → stays_open s (add schema s c)
 unfolding add
 added_stays schema s c =
-    if_both (λ (d : Standing). d.place ≡ s.place) (λ cause. Unit {0}) (nat_le 65536 (length s.changes) || not (is_change_writable Narrow c)) _ _ (λ passes. tt)
+    if_both (λ (d : Standing). d.place ≡ s.place) (λ cause. Unit {0}) (nat_le (most_changes (limits_of s.version)) (length s.changes) || not (is_change_writable (limits_of s.version) c)) _ _ (λ passes. tt)
     (λ within. if_both (λ (d : Standing). d.place ≡ s.place) (λ cause. Unit {0}) (not (fits schema c)) _ _ (λ misfit. tt) (λ taken. refl))
 
 -- ---- in a bundle
@@ -78,7 +79,7 @@ all_go_on s (Ok d) within h = goes_on s d within (ap is_within h ∙ within)
 all_go_on s (Err c) within h = refl
 
 -- a line within an entry of the open journal adds the change that it writes
-pub bundle_adds : (s : BundleStanding) (line : List ℕ) (c : Change) → change_in line ≡ Ok c → s.part ≡ parts.Journal → is_within s.draft.place ≡ true → judge_bundle s line ≡ with_change s c
+pub bundle_adds : (s : BundleStanding) (line : List ℕ) (c : Change) → change_in (limits_of s.draft.version) line ≡ Ok c → s.part ≡ parts.Journal → is_within s.draft.place ≡ true → judge_bundle s line ≡ with_change s c
 unfolding judge_bundle judge_inner with_change
 bundle_adds s line c e part within =
     ap (λ (p : Part). judge_part p true s line) part

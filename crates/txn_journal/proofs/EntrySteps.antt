@@ -16,13 +16,16 @@ use Rattle.txn_journal.specs.Lines.{◌>>=◌}
 use Rattle.txn_journal.specs.Machine.{Standing, is_within, fits, add, begin, txn_line, step, judge, close_entry}
 use Rattle.txn_journal.specs.BundleStates.{BundleStanding, judge_part, judge_bundle}
 use Rattle.txn_journal.specs.BundleChanges.{with_change}
+use Rattle.txn_journal.specs.ChangeLines.{change_in}
 use Rattle.txn_journal.specs.EntryLines.{AreChangeLines, IsEntryText}
+use Rattle.txn_journal.specs.Versions.{limits_of}
 use Rattle.txn_journal.specs.TakenEntries.{judge_all, Makes, TakesText, MayFollow, with_entry, JoinsEntry}
 use Rattle.txn_journal.specs.declared.bundle_draft.Part.{Part}
 use Rattle.txn_journal.specs.declared.bundle_draft.Part.TheVariants as parts
 use Rattle.txn_journal.specs.declared.fault.Cause.{Cause}
 use Rattle.txn_journal.specs.declared.lines.LinePlace.{LinePlace}
 use Rattle.txn_journal.specs.declared.lines.LinePlace.TheVariants as places
+use Rattle.txn_journal.specs.declared.lines.Version.{Version}
 use Rattle.txn_journal.specs.declared.lines.Version.TheVariants.{One}
 use Rattle.txn_journal.proofs.Judged.{bind_ok, done}
 use Rattle.txn_journal.proofs.ChangeSteps.{bundle_adds}
@@ -62,28 +65,28 @@ bundle_begins s cs word g part spelled h =
 
 -- ---- the changes
 
-adds_one : (tables : List Table) (s : Standing) (c : Change) → nat_le 65536 (length s.changes) ≡ false → is_change_writable Narrow c ≡ true → fits (Some tables) c ≡ true → add (Some tables) s c ≡ Ok (record s { changes = s.changes ++ c ∷ [] })
+adds_one : (tables : List Table) (s : Standing) (c : Change) → s.version ≡ One → nat_le 65536 (length s.changes) ≡ false → is_change_writable Narrow c ≡ true → fits (Some tables) c ≡ true → add (Some tables) s c ≡ Ok (record s { changes = s.changes ++ c ∷ [] })
 unfolding add
-adds_one tables s c few writable fit = simp (few, writable, fit) refl
+adds_one tables s c one few writable fit = simp (one, few, writable, fit) refl
 
 abbrev holding : BundleStanding → List Change → BundleStanding
 holding s cs = with_draft s (record s.draft { changes = s.draft.changes ++ cs })
 
-holds_one : (s : BundleStanding) (c : Change) → nat_le 65536 (length s.draft.changes) ≡ false → is_change_writable Narrow c ≡ true → fits (Some s.bundle.start.schema) c ≡ true → with_change s c ≡ done (holding s (c ∷ []))
+holds_one : (s : BundleStanding) (c : Change) → s.draft.version ≡ One → nat_le 65536 (length s.draft.changes) ≡ false → is_change_writable Narrow c ≡ true → fits (Some s.bundle.start.schema) c ≡ true → with_change s c ≡ done (holding s (c ∷ []))
 unfolding with_change
-holds_one s c few writable fit = ap (λ (r : Result Standing Cause). r >>= λ d. done (with_draft s d)) (adds_one s.bundle.start.schema s.draft c few writable fit)
+holds_one s c one few writable fit = ap (λ (r : Result Standing Cause). r >>= λ d. done (with_draft s d)) (adds_one s.bundle.start.schema s.draft c one few writable fit)
 
-holds_all : (s : BundleStanding) (ls : List (List ℕ)) (cs : List Change) → s.part ≡ parts.Journal → is_within s.draft.place ≡ true → AreChangeLines ls cs → nat_le (length s.draft.changes + length cs) 65536 ≡ true → list_all (is_change_writable Narrow) cs ≡ true → list_all (fits (Some s.bundle.start.schema)) cs ≡ true
+holds_all : (s : BundleStanding) (ls : List (List ℕ)) (cs : List Change) → s.part ≡ parts.Journal → s.draft.version ≡ One → is_within s.draft.place ≡ true → AreChangeLines Narrow ls cs → nat_le (length s.draft.changes + length cs) 65536 ≡ true → list_all (is_change_writable Narrow) cs ≡ true → list_all (fits (Some s.bundle.start.schema)) cs ≡ true
     → judge_all judge_bundle s ls ≡ done (holding s cs)
-holds_all s [] [] part within h few writable fit = ap (λ (x : List Change). done (with_draft s (record s.draft { changes = x }))) (sym (append-nil s.draft.changes))
-holds_all s [] (c ∷ cs) part within h few writable fit = absurd h
-holds_all s (l ∷ ls) [] part within h few writable fit = absurd h
-holds_all s (l ∷ ls) (c ∷ cs) part within h few writable fit =
+holds_all s [] [] part old within h few writable fit = ap (λ (x : List Change). done (with_draft s (record s.draft { changes = x }))) (sym (append-nil s.draft.changes))
+holds_all s [] (c ∷ cs) part old within h few writable fit = absurd h
+holds_all s (l ∷ ls) [] part old within h few writable fit = absurd h
+holds_all s (l ∷ ls) (c ∷ cs) part old within h few writable fit =
     let w = and_parts (is_change_writable Narrow c) (list_all (is_change_writable Narrow) cs) writable in
     let f = and_parts (fits (Some s.bundle.start.schema) c) (list_all (fits (Some s.bundle.start.schema)) cs) fit in
-    let one = bundle_adds s l c h.1 part within ∙ holds_one s c (room_now (length s.draft.changes) (length cs) few) w.0 f.0 in
+    let one = bundle_adds s l c (subst (λ (v : Version). change_in (limits_of v) l ≡ Ok c) (sym old) h.1) part within ∙ holds_one s c old (room_now (length s.draft.changes) (length cs) few) w.0 f.0 in
     ap (λ (r : Result BundleStanding Cause). r >>= λ t. judge_all judge_bundle t ls) one
-    ∙ holds_all (holding s (c ∷ [])) ls cs part within h.2 (room_next s.draft.changes c (length cs) few) w.1 f.1
+    ∙ holds_all (holding s (c ∷ [])) ls cs part old within h.2 (room_next s.draft.changes c (length cs) few) w.1 f.1
     ∙ ap (λ (x : List Change). done (with_draft s (record s.draft { changes = x }))) (append_assoc s.draft.changes (c ∷ []) cs)
   where
     room_now : (n m : ℕ) → nat_le (n + suc m) 65536 ≡ true → nat_le 65536 n ≡ false
@@ -111,7 +114,7 @@ entry_made s text g cs part one h may =
     let opened = with_draft s (begun s.draft g) in
     let w = and_parts (nat_le (length cs) 65536) (list_all (is_change_writable Narrow) cs) h.writable in
     let few : nat_le (length s.draft.changes + length cs) 65536 ≡ true = ap (λ (xs : List Change). nat_le (length xs + length cs) 65536) may.nothing_open ∙ ap (λ (k : ℕ). nat_le k 65536) (none_before (length cs)) ∙ w.0 in
-    let held = holds_all opened h.within cs part refl h.lines few w.1 may.fit in
+    let held = holds_all opened h.within cs part may.version refl h.lines few w.1 may.fit in
     let closed : judge_bundle (holding opened cs) last ≡ done (with_draft s (with_entry s.draft g cs)) =
     ends (holding opened cs) part one refl refl ∙ ap (λ (xs : List Change). done (with_draft s (close_entry (record (begun s.draft g) { changes = xs ++ cs })))) may.nothing_open in
     record {

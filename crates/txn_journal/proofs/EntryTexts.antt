@@ -7,7 +7,9 @@ use Rattle.std.proofs.lemmas.Bool.{and_parts, le-leb}
 use Rattle.gtid_set.proofs.SpanLemmas.{all_push}
 use Rattle.gtid_text.specs.declared.Gtid.{Gtid}
 use Rattle.rows.specs.declared.change.Change.{Change}
+use Rattle.rows.specs.declared.limits.Limits.{Limits}
 use Rattle.rows.specs.declared.limits.Limits.TheVariants.{Narrow}
+use Rattle.rows.specs.Limits.{most_changes}
 use Rattle.txn_journal.specs.Words.{IsOneLine}
 use Rattle.txn_journal.specs.ChangeLines.{change_in}
 use Rattle.journal.specs.Writing.{is_change_writable}
@@ -34,25 +36,25 @@ ended_more ls l text left after so_far parts =
     ∙ sym (append_assoc (ended ls) (l ++ 10 ∷ []) after)
     ∙ ap (λ (t : List ℕ). t ++ after) (sym (ended_append ls (l ∷ [])))
 
-pub one_change_more : (ls : List (List ℕ)) (cs : List Change) (l : List ℕ) (c : Change) → AreChangeLines ls cs → IsOneLine l → change_in l ≡ Ok c → AreChangeLines (ls ++ l ∷ []) (cs ++ c ∷ [])
+pub one_change_more : (ls : List (List ℕ)) (cs : List Change) (l : List ℕ) (c : Change) → AreChangeLines Narrow ls cs → IsOneLine l → change_in Narrow l ≡ Ok c → AreChangeLines Narrow (ls ++ l ∷ []) (cs ++ c ∷ [])
 one_change_more [] [] l c h one e = (one, e, tt)
 one_change_more [] (d ∷ ds) l c h one e = absurd h
 one_change_more (x ∷ xs) [] l c h one e = absurd h
 one_change_more (x ∷ xs) (d ∷ ds) l c h one e = (h.0, h.1, one_change_more xs ds l c h.2 one e)
 
-pub writable_more : (cs : List Change) (c : Change) → AreWritable cs → length cs < 65536 → is_change_writable Narrow c ≡ true → AreWritable (cs ++ c ∷ [])
-writable_more cs c h few writes =
-    let p = and_parts (nat_le (length cs) 65536) (list_all (is_change_writable Narrow) cs) h in
-    let le = le-leb (length (cs ++ c ∷ [])) 65536 (omega (arith, few, length_push cs c)) in
-    (λ i. le i && all_push (is_change_writable Narrow) cs c p.1 writes i)
+pub writable_more : (limits : Limits) (cs : List Change) (c : Change) → AreWritable limits cs → length cs < most_changes limits → is_change_writable limits c ≡ true → AreWritable limits (cs ++ c ∷ [])
+writable_more limits cs c h few writes =
+    let p = and_parts (nat_le (length cs) (most_changes limits)) (list_all (is_change_writable limits) cs) h in
+    let le = le-leb (length (cs ++ c ∷ [])) (most_changes limits) (omega (arith, few, length_push cs c)) in
+    (λ i. le i && all_push (is_change_writable limits) cs c p.1 writes i)
 
-pub as_many : (ls : List (List ℕ)) (cs : List Change) → AreChangeLines ls cs → length ls ≡ length cs
+pub as_many : (ls : List (List ℕ)) (cs : List Change) → AreChangeLines Narrow ls cs → length ls ≡ length cs
 as_many [] [] h = refl
 as_many [] (c ∷ cs) h = absurd h
 as_many (l ∷ ls) [] h = absurd h
 as_many (l ∷ ls) (c ∷ cs) h = ap suc (as_many ls cs h.2)
 
-pub all_whole : (ls : List (List ℕ)) (cs : List Change) (l : List ℕ) → AreChangeLines ls cs → IsOneLine l → AllByRecursion IsOneLine (ls ++ l ∷ [])
+pub all_whole : (ls : List (List ℕ)) (cs : List Change) (l : List ℕ) → AreChangeLines Narrow ls cs → IsOneLine l → AllByRecursion IsOneLine (ls ++ l ∷ [])
 all_whole [] [] l h one = (one, tt)
 all_whole [] (c ∷ cs) l h one = absurd h
 all_whole (x ∷ xs) [] l h one = absurd h

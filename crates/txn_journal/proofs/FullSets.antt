@@ -11,7 +11,8 @@ use Rattle.journal_words.specs.Gtids.{set_of_word, OfParsed, IsWordFault}
 use Rattle.rows.specs.declared.change.Change.{Change}
 use Rattle.rows.specs.declared.change.Change.TheVariants.{Insert, Delete, Update}
 use Rattle.rows.specs.declared.schema.Table.{Table}
-use Rattle.rows.specs.declared.limits.Limits.TheVariants.{Narrow}
+use Rattle.rows.specs.Limits.{most_changes}
+use Rattle.txn_journal.specs.Versions.{limits_of}
 use Rattle.gtid_text.specs.declared.Gtid.{Gtid}
 use Rattle.journal.specs.Writing.{is_number, is_change_writable}
 use Rattle.txn_journal.specs.Due.{is_due}
@@ -58,7 +59,7 @@ never_added : (f : SetFault) (schema : Option (List Table)) (s : Standing) (c : 
 unfolding add
 never_added f schema s c within h =
     let added : Result Standing Cause = Ok (record s { changes = s.changes ++ c ∷ [] }) in
-    let second = full_past (IsFull f) (leb 65536 (length s.changes) || not (is_change_writable Narrow c)) _ (cond (not (fits schema c)) (Err _) added) h in
+    let second = full_past (IsFull f) (leb (most_changes (limits_of s.version)) (length s.changes) || not (is_change_writable (limits_of s.version) c)) _ (cond (not (fits schema c)) (Err _) added) h in
     let third = full_past (IsFull f) (not (fits schema c)) _ added second in
     absurd (let k = sym within ∙ third.0 in cc)
 
@@ -104,11 +105,11 @@ not_full schema s keywords.Journal rest due other another h = never_behind (IsFu
 not_full schema s keywords.Previous rest due other another h = absurd (another refl)
 not_full schema s keywords.Txn rest due other another h = never_behind (IsFull SourcesFull) (beginning_at s.version (s.count + 1) rest) _ (λ beginning. never_begun s beginning.0 beginning.1) h
 not_full schema s keywords.Ins rest due other another h =
-    never_behind (IsFull SourcesFull) (table_in rest) _ (λ table. never_behind (IsFull SourcesFull) (image_in table.1) _ (λ after. never_added SourcesFull schema s (Insert table.0 after) (due_ins s.place due))) h
+    never_behind (IsFull SourcesFull) (table_in (limits_of s.version) rest) _ (λ table. never_behind (IsFull SourcesFull) (image_in table.1) _ (λ after. never_added SourcesFull schema s (Insert table.0 after) (due_ins s.place due))) h
 not_full schema s keywords.Del rest due other another h =
-    never_behind (IsFull SourcesFull) (table_in rest) _ (λ table. never_behind (IsFull SourcesFull) (image_in table.1) _ (λ before. never_added SourcesFull schema s (Delete table.0 before) (due_del s.place due))) h
+    never_behind (IsFull SourcesFull) (table_in (limits_of s.version) rest) _ (λ table. never_behind (IsFull SourcesFull) (image_in table.1) _ (λ before. never_added SourcesFull schema s (Delete table.0 before) (due_del s.place due))) h
 not_full schema s keywords.Upd rest due other another h =
-    never_behind (IsFull SourcesFull) (table_in rest) _ (λ table. never_behind (IsFull SourcesFull) (images_in table.1) _ (λ images. never_added SourcesFull schema s (Update table.0 images.0 images.1) (due_upd s.place due))) h
+    never_behind (IsFull SourcesFull) (table_in (limits_of s.version) rest) _ (λ table. never_behind (IsFull SourcesFull) (images_in table.1) _ (λ images. never_added SourcesFull schema s (Update table.0 images.0 images.1) (due_upd s.place due))) h
 not_full schema s keywords.End rest due other another h = absurd (other refl)
 not_full schema s keywords.Close rest due other another h = never_behind (IsFull SourcesFull) (nothing_in rest) _ (λ nothing k. absurd (let e = k.0 in cc)) h
 

@@ -13,7 +13,9 @@ use Rattle.row_images.specs.declared.value.Value.{Value}
 use Rattle.rows.specs.declared.change.Change.{Change}
 use Rattle.rows.specs.declared.change.Change.TheVariants.{Insert, Delete, Update}
 use Rattle.rows.specs.declared.schema.Table.{Table}
-use Rattle.rows.specs.declared.limits.Limits.TheVariants.{Narrow}
+use Rattle.rows.specs.declared.limits.Limits.{Limits}
+use Rattle.rows.specs.Limits.{most_changes}
+use Rattle.txn_journal.specs.Versions.{limits_of}
 use Rattle.journal.specs.declared.Entry.{Entry}
 use Rattle.journal.specs.Journals.{JournalValue, AreNew}
 use Rattle.journal.proofs.EntryLemmas.{no_numbers}
@@ -30,7 +32,7 @@ use Rattle.txn_journal.specs.Spelling.{Line, Header, Previous, Begin, Makes, End
 use Rattle.row_images.specs.Images.{values_text, AreValues}
 use Rattle.txn_journal.specs.declared.lines.LinePlace.TheVariants as places
 use Rattle.txn_journal.specs.declared.lines.Version.{Version}
-use Rattle.txn_journal.specs.declared.lines.Version.TheVariants.{One, Two}
+use Rattle.txn_journal.specs.declared.lines.Version.TheVariants.{One, Two, Three}
 use Rattle.txn_journal.proofs.NameLemmas.{name_no_feed}
 use Rattle.txn_journal.proofs.SplitLaws.{joined_lacks, count_no_feed}
 use Rattle.row_images.proofs.ImageLaws.{texts_lack}
@@ -54,11 +56,11 @@ values_one vs fits = joined_lacks 32 10 (map value_text vs) refl (texts_lack 10 
 pub table_one : (table text : List ℕ) → lacks 10 table ≡ true → lacks 10 text ≡ true → lacks 10 (table ++ 32 ∷ text) ≡ true
 table_one table text a b = joins (λ c. not (eqb c 10)) table (32 ∷ text) a b
 
-change_one : (c : Change) → FitsChange c → lacks 10 (change_text c) ≡ true
-change_one (Insert table after) fits = table_one table (values_text after) (name_no_feed table fits.0) (values_one after fits.1)
-change_one (Delete table before) fits = table_one table (values_text before) (name_no_feed table fits.0) (values_one before fits.1)
-change_one (Update table before after) fits =
-    table_one table (values_text before ++ 32 ∷ (124 ∷ 32 ∷ values_text after)) (name_no_feed table fits.0)
+change_one : (limits : Limits) (c : Change) → FitsChange limits c → lacks 10 (change_text c) ≡ true
+change_one limits (Insert table after) fits = table_one table (values_text after) (name_no_feed limits table fits.0) (values_one after fits.1)
+change_one limits (Delete table before) fits = table_one table (values_text before) (name_no_feed limits table fits.0) (values_one before fits.1)
+change_one limits (Update table before after) fits =
+    table_one table (values_text before ++ 32 ∷ (124 ∷ 32 ∷ values_text after)) (name_no_feed limits table fits.0)
     (joins (λ c. not (eqb c 10)) (values_text before) (32 ∷ (124 ∷ 32 ∷ values_text after)) (values_one before fits.1) (values_one after fits.2))
 
 -- no line feed
@@ -69,32 +71,33 @@ numbers_one : (numbers : Option Numbers) → AreCounts numbers → lacks 10 (num
 numbers_one None counts = refl
 numbers_one (Some n) counts = joins no_feed n.last_committed (32 ∷ n.sequence_number) (count_no_feed n.last_committed counts.0) (count_no_feed n.sequence_number counts.1)
 
-pub line_one : (l : Line) → FitsLine l → lacks 10 (line_text l) ≡ true
-line_one (Header One) fits = refl
-line_one (Header Two) fits = refl
-line_one (Previous s) fits = set_no_feeds s fits
-line_one (Begin g numbers) fits = joins no_feed (gtid_text g) (numbers_text numbers) (all_weaker is_set_byte no_feed (gtid_text g) set_no_feed (gtid_set_bytes g fits.0)) (numbers_one numbers fits.1)
-line_one (Makes c) fits = change_one c fits
-line_one End fits = refl
-line_one Close fits = refl
+pub line_one : (limits : Limits) (l : Line) → FitsLine limits l → lacks 10 (line_text l) ≡ true
+line_one limits (Header One) fits = refl
+line_one limits (Header Two) fits = refl
+line_one limits (Header Three) fits = refl
+line_one limits (Previous s) fits = set_no_feeds s fits
+line_one limits (Begin g numbers) fits = joins no_feed (gtid_text g) (numbers_text numbers) (all_weaker is_set_byte no_feed (gtid_text g) set_no_feed (gtid_set_bytes g fits.0)) (numbers_one numbers fits.1)
+line_one limits (Makes c) fits = change_one limits c fits
+line_one limits End fits = refl
+line_one limits Close fits = refl
 
 -- ---- the changes of an entry
 
-image_some : (image : List Value) → is_image_writable Narrow image ≡ true → 0 < length image
-image_some [] e = absurd cc
-image_some (v ∷ vs) e = omega arith
+image_some : (limits : Limits) (image : List Value) → is_image_writable limits image ≡ true → 0 < length image
+image_some limits [] e = absurd cc
+image_some limits (v ∷ vs) e = omega arith
 
-change_images : (c : Change) → is_change_writable Narrow c ≡ true → HasImages (Makes c)
-change_images (Insert table after) e = image_some after e
-change_images (Delete table before) e = image_some before e
-change_images (Update table before after) e = let p = and_parts (is_image_writable Narrow before) (is_image_writable Narrow after) e in (image_some before p.0, image_some after p.1)
+change_images : (limits : Limits) (c : Change) → is_change_writable limits c ≡ true → HasImages (Makes c)
+change_images limits (Insert table after) e = image_some limits after e
+change_images limits (Delete table before) e = image_some limits before e
+change_images limits (Update table before after) e = let p = and_parts (is_image_writable limits before) (is_image_writable limits after) e in (image_some limits before p.0, image_some limits after p.1)
 
 due_change : (c : Change) → is_due places.Within (word_for (Makes c)) ≡ true
 due_change c = grind arith
 
-add_again : (schema : Option (List Table)) (s : Standing) (c : Change) → length s.changes < 65536 → is_change_writable Narrow c ≡ true → fits schema c ≡ true → add schema s c ≡ Ok (record s { changes = s.changes ++ c ∷ [] })
+add_again : (schema : Option (List Table)) (s : Standing) (c : Change) → length s.changes < most_changes (limits_of s.version) → is_change_writable (limits_of s.version) c ≡ true → fits schema c ≡ true → add schema s c ≡ Ok (record s { changes = s.changes ++ c ∷ [] })
 unfolding add
-add_again schema s c lt e fit = rw (lt-leb 65536 (length s.changes) lt, e, fit) refl
+add_again schema s c lt e fit = rw (lt-leb (most_changes (limits_of s.version)) (length s.changes) lt, e, fit) refl
 
 begin_again : (s : Standing) (g : Gtid) (numbers : Option Numbers) (stamp : ℕ) → is_number g.number ≡ true → s.count < 4294967294 → stamp_in (s.count + 1) numbers ≡ Some stamp → set.contains s.seen g ≡ false
     → begin s g (stamp_in (s.count + 1) numbers) ≡ Ok (record s { place = places.Within; gtid = g; stamp = stamp })
@@ -102,31 +105,36 @@ unfolding begin
 begin_again s g numbers stamp number few e apart = rw (number, lt-leb 4294967294 s.count few, e, apart) refl
 
 -- the numbers of a place
+numbered_again : (place stamp : ℕ) → place < 2 ^ 64 → stamp < place → stamp_in place (numbers_of Two place stamp) ≡ Some stamp
+numbered_again place stamp small is = rw (count_again place small, eq-eqb place place refl, count_again stamp (omega (arith, is, small)), lt-ltb stamp place is) refl
+
 numbers_again : (version : Version) (place stamp : ℕ) → place < 2 ^ 64 → IsStamp version place stamp → stamp_in place (numbers_of version place stamp) ≡ Some stamp
 numbers_again One place stamp small is = ap Some (sym is)
-numbers_again Two place stamp small is = rw (count_again place small, eq-eqb place place refl, count_again stamp (omega (arith, is, small)), lt-ltb stamp place is) refl
+numbers_again Two place stamp small is = numbered_again place stamp small is
+numbers_again Three place stamp small is = numbered_again place stamp small is
 
 record FitNumbers (version : Version) (numbers : Option Numbers) : Type 0 where
   counts : AreCounts numbers
   of_version : HasNumbers version numbers
 
 numbers_fit : (version : Version) (place stamp : ℕ) → place < 2 ^ 64 → IsStamp version place stamp → FitNumbers version (numbers_of version place stamp)
-numbers_fit One place stamp small is = record { counts = tt; of_version = tt }
-numbers_fit Two place stamp small is = record { counts = (is_count_decimal stamp (omega (arith, is, small)), is_count_decimal place small); of_version = tt }
+numbers_fit One place stamp small is = record { counts = tt; of_version = refl }
+numbers_fit Two place stamp small is = record { counts = (is_count_decimal stamp (omega (arith, is, small)), is_count_decimal place small); of_version = refl }
+numbers_fit Three place stamp small is = record { counts = (is_count_decimal stamp (omega (arith, is, small)), is_count_decimal place small); of_version = refl }
 
 number_in : (n : ℕ) → is_number n ≡ true → (1 ≤ n) × (n ≤ 9223372036854775807)
 unfolding greatest
 number_in n e = let p = and_parts (leb 1 n) (leb n 9223372036854775807) e in (leb-true 1 n p.0, leb-true n 9223372036854775807 p.1)
 
-record Parts (e : Entry) : Type 0 where
+record Parts (limits : Limits) (e : Entry) : Type 0 where
   number : is_number e.gtid.number ≡ true
-  few : length e.txn.changes ≤ 65536
-  all : list_all (is_change_writable Narrow) e.txn.changes ≡ true
+  few : length e.txn.changes ≤ most_changes limits
+  all : list_all (is_change_writable limits) e.txn.changes ≡ true
 
-parts_of : (e : Entry) → is_writable Narrow e ≡ true → Parts e
-parts_of e w =
-    let p = and_parts (is_number e.gtid.number) (is_txn_writable Narrow e.txn) w in
-    let q = and_parts (leb (length e.txn.changes) 65536) (list_all (is_change_writable Narrow) e.txn.changes) p.1 in
+parts_of : (limits : Limits) (e : Entry) → is_writable limits e ≡ true → Parts limits e
+parts_of limits e w =
+    let p = and_parts (is_number e.gtid.number) (is_txn_writable limits e.txn) w in
+    let q = and_parts (leb (length e.txn.changes) (most_changes limits)) (list_all (is_change_writable limits) e.txn.changes) p.1 in
     record { number = p.0; few = leb-true _ _ q.0; all = q.1 }
 
 abbrev with_entry : JournalValue → Entry → JournalValue
@@ -160,27 +168,27 @@ module _ (schema : Option (List Table)) (due : Option Version) (version : Versio
   Goes s ls t = Leads K line_text (into s) ls (into t)
 
   goes_line : (s t : Standing) (l : Line) → is_due s.place (word_for l) ≡ true → FitsAt s.due s.version l → put schema s l ≡ Ok t → is_last t.place ≡ false → (s.place ≡ places.Within → is_within t.place ≡ false → Right s.journal.entries s.stamp (open_entry s)) → Goes s (l ∷ []) t
-  goes_line s t l is fit step more right = leads_one K line_text (into s) (into t) l (line_one l fit.words) (carries s t (line_text l) (spelled_judged schema s t l is fit step) more right)
+  goes_line s t l is fit step more right = leads_one K line_text (into s) (into t) l (line_one (limits_of s.version) l fit.words) (carries s t (line_text l) (spelled_judged schema s t l is fit step) more right)
 
-  goes_changes : (j : JournalValue) (stamps : List ℕ) (seen : Gtids) (count : ℕ) (g : Gtid) (stamp : ℕ) (cs ds : List Change) → AllByRecursion FitsChange ds → list_all (is_change_writable Narrow) ds ≡ true → list_all (fits schema) ds ≡ true → length cs + length ds ≤ 65536
+  goes_changes : (j : JournalValue) (stamps : List ℕ) (seen : Gtids) (count : ℕ) (g : Gtid) (stamp : ℕ) (cs ds : List Change) → AllByRecursion (FitsChange (limits_of version)) ds → list_all (is_change_writable (limits_of version)) ds ≡ true → list_all (fits schema) ds ≡ true → length cs + length ds ≤ most_changes (limits_of version)
       → Goes (at places.Within due version j stamps seen count g stamp cs) (map Makes ds) (at places.Within due version j stamps seen count g stamp (cs ++ ds))
   unfolding put
   goes_changes j stamps seen count g stamp cs [] fit all taken few =
       let s = at places.Within due version j stamps seen count g stamp cs in
       subst (λ (x : List Change). Goes s [] (at places.Within due version j stamps seen count g stamp x)) (sym (append-nil cs)) (leads_none K line_text (into s))
   goes_changes j stamps seen count g stamp cs (d ∷ ds) fit all taken few =
-      let p = and_parts (is_change_writable Narrow d) (list_all (is_change_writable Narrow) ds) all in
+      let p = and_parts (is_change_writable (limits_of version) d) (list_all (is_change_writable (limits_of version)) ds) all in
       let q = and_parts (fits schema d) (list_all (fits schema) ds) taken in
       let s = at places.Within due version j stamps seen count g stamp cs in
       let t = at places.Within due version j stamps seen count g stamp (cs ++ d ∷ []) in
-      let one : Goes s (Makes d ∷ []) t = goes_line s t (Makes d) (due_change d) (record { words = fit.0; images = change_images d p.0; of_version = tt }) (add_again schema s d (omega arith) p.0 q.0) refl (λ within out. absurd cc) in
+      let one : Goes s (Makes d ∷ []) t = goes_line s t (Makes d) (due_change d) (record { words = fit.0; images = change_images (limits_of version) d p.0; of_version = tt }) (add_again schema s d (omega arith) p.0 q.0) refl (λ within out. absurd cc) in
       leads_both one (subst (λ (x : List Change). Goes t (map Makes ds) (at places.Within due version j stamps seen count g stamp x)) (append_assoc cs (d ∷ []) ds) (goes_changes j stamps seen count g stamp (cs ++ d ∷ []) ds fit.1 p.1 q.1 (omega (arith, length-append cs (d ∷ [])))))
 
-  goes_entry : (j : JournalValue) (stamps : List ℕ) (seen : Gtids) (count : ℕ) (g : Gtid) (old stamp : ℕ) (e : Entry) → FitsEntry e → is_writable Narrow e ≡ true → fits_in schema e ≡ true → count < 4294967294 → set.contains seen e.gtid ≡ false → IsStamp version (count + 1) stamp → Right j.entries stamp e
+  goes_entry : (j : JournalValue) (stamps : List ℕ) (seen : Gtids) (count : ℕ) (g : Gtid) (old stamp : ℕ) (e : Entry) → FitsEntry (limits_of version) e → is_writable (limits_of version) e ≡ true → fits_in schema e ≡ true → count < 4294967294 → set.contains seen e.gtid ≡ false → IsStamp version (count + 1) stamp → Right j.entries stamp e
       → Goes (at places.Between due version j stamps seen count g old []) (entry_lines (numbers_of version (count + 1) stamp) e) (at places.Between due version (with_entry j e) (stamps ++ stamp ∷ []) (set.insert seen e.gtid) (count + 1) e.gtid stamp [])
   unfolding put
   goes_entry j stamps seen count g old stamp e fit w taken few apart is right =
-      let p = parts_of e w in
+      let p = parts_of (limits_of version) e w in
       let s = at places.Between due version j stamps seen count g old [] in
       let t = at places.Within due version j stamps seen count e.gtid stamp [] in
       let u = at places.Within due version j stamps seen count e.gtid stamp e.txn.changes in
@@ -197,14 +205,14 @@ module _ (schema : Option (List Table)) (due : Option Version) (version : Versio
     stamp : ℕ
     goes : Goes (at places.Between due version j stamps seen count g old []) (entries_lines version (count + 1) ls es) (at places.Between due version (with_entries j es) (stamps ++ ls) (seen_after seen es) (count + length es) last stamp [])
 
-  goes_entries : (j : JournalValue) (stamps : List ℕ) (seen : Gtids) (count : ℕ) (g : Gtid) (old : ℕ) (ls : List ℕ) (es : List Entry) → AllByRecursion FitsEntry es → list_all (is_writable Narrow) es ≡ true → list_all (fits_in schema) es ≡ true → AreNew seen es → count + length es ≤ 4294967294 → AreStamps version (count + 1) ls es → AreRight Right j.entries ls es
+  goes_entries : (j : JournalValue) (stamps : List ℕ) (seen : Gtids) (count : ℕ) (g : Gtid) (old : ℕ) (ls : List ℕ) (es : List Entry) → AllByRecursion (FitsEntry (limits_of version)) es → list_all (is_writable (limits_of version)) es ≡ true → list_all (fits_in schema) es ≡ true → AreNew seen es → count + length es ≤ 4294967294 → AreStamps version (count + 1) ls es → AreRight Right j.entries ls es
       → GoesEntries j stamps seen count g old ls es
   goes_entries j stamps seen count g old [] [] fit all taken new few stamped right =
       let s = at places.Between due version j stamps seen count g old [] in
       let none_more : count ≡ count + 0 = omega arith in
       record { last = g; stamp = old; goes = subst (λ (t : Standing). Goes s [] t) (λ i. at places.Between due version (record j { entries = sym (append-nil j.entries) i }) (sym (append-nil stamps) i) seen (none_more i) g old []) (leads_none K line_text (into s)) }
   goes_entries j stamps seen count g old (l ∷ ls) (e ∷ es) fit all taken new few stamped right =
-      let p = and_parts (is_writable Narrow e) (list_all (is_writable Narrow) es) all in
+      let p = and_parts (is_writable (limits_of version) e) (list_all (is_writable (limits_of version)) es) all in
       let q = and_parts (fits_in schema e) (list_all (fits_in schema) es) taken in
       let one = goes_entry j stamps seen count g old l e fit.0 p.0 q.0 (omega arith) new.0 stamped.0 right.0 in
       let more = goes_entries (with_entry j e) (stamps ++ l ∷ []) (set.insert seen e.gtid) (count + 1) e.gtid l ls es fit.1 p.1 q.1 new.1 (omega arith) stamped.1 right.1 in
@@ -227,7 +235,7 @@ module _ (schema : Option (List Table)) (due : Option Version) (version : Versio
     pub stamp : ℕ
     pub goes : Leads K line_text (into (empty due)) (front_lines version stamps j) (into (at places.Between due version j stamps seen (length j.entries) last stamp []))
 
-  pub goes_front : (stamps : List ℕ) (j : JournalValue) → takes due version ≡ true → IsWritten j → AreStamps version 1 stamps j.entries → list_all (fits_in schema) j.entries ≡ true → AreRight Right [] stamps j.entries → GoesFront stamps j
+  pub goes_front : (stamps : List ℕ) (j : JournalValue) → takes due version ≡ true → IsWritten (limits_of version) j → AreStamps version 1 stamps j.entries → list_all (fits_in schema) j.entries ≡ true → AreRight Right [] stamps j.entries → GoesFront stamps j
   unfolding put
   goes_front stamps j is w stamped taken right =
       let k : JournalValue = record { previous = j.previous; entries = [] } in
@@ -279,8 +287,8 @@ reads_to due version stamps bytes j is w =
 abbrev pub no_entries : JournalValue
 no_entries = record { previous = set.empty; entries = [] }
 
-pub no_entries_fit : IsWritten no_entries
-no_entries_fit = record { keeps = record { numbers = no_numbers; new = tt; writable = refl }; writable = refl; few = omega arith; previous = none_written; entries = tt }
+pub no_entries_fit : (limits : Limits) → IsWritten limits no_entries
+no_entries_fit limits = record { keeps = record { numbers = no_numbers; new = tt; writable = refl }; writable = refl; few = omega arith; previous = none_written; entries = tt }
 
 -- the entries after the lines so far, with the one that is open, and their numbers
 abbrev pub last_entries : LinePlace → Standing → List Entry
@@ -302,7 +310,7 @@ pub record Completes (schema : Option (List Table)) (due : Option Version) (plac
   pub more : List Line
   pub takes_version : takes due version ≡ true
   pub entries : journal.entries ≡ last_entries place s
-  pub fits : IsWritten journal
+  pub fits : IsWritten (limits_of version) journal
   pub stamps_fit : AreStamps version 1 (last_stamps place s) journal.entries
   pub fitting : list_all (fits_in schema) journal.entries ≡ true
   pub whole : journal_lines version (last_stamps place s) journal ≡ lines_so_far (placed place s) ++ more
@@ -311,12 +319,13 @@ pub some_version : (due : Option Version) → (version : Version) × (takes due 
 some_version None = (One, refl)
 some_version (Some One) = (One, refl)
 some_version (Some Two) = (Two, refl)
+some_version (Some Three) = (Three, refl)
 
 pub completes_at : (schema : Option (List Table)) (place : LinePlace) (s : Standing) → Sound_at schema place s → Completes schema s.due place s
 completes_at schema places.Header s h =
     let v = some_version s.due in
-    record { version = v.0; journal = no_entries; more = journal_lines v.0 [] no_entries; takes_version = v.1; entries = refl; fits = no_entries_fit; stamps_fit = tt; fitting = refl; whole = refl }
-completes_at schema places.Previous s h = record { version = s.version; journal = no_entries; more = Previous set.empty ∷ Close ∷ []; takes_version = h.1; entries = refl; fits = no_entries_fit; stamps_fit = tt; fitting = refl; whole = refl }
+    record { version = v.0; journal = no_entries; more = journal_lines v.0 [] no_entries; takes_version = v.1; entries = refl; fits = no_entries_fit (limits_of v.0); stamps_fit = tt; fitting = refl; whole = refl }
+completes_at schema places.Previous s h = record { version = s.version; journal = no_entries; more = Previous set.empty ∷ Close ∷ []; takes_version = h.1; entries = refl; fits = no_entries_fit (limits_of s.version); stamps_fit = tt; fitting = refl; whole = refl }
 completes_at schema places.Between s h = record { version = s.version; journal = s.journal; more = Close ∷ []; takes_version = h.0.due; entries = refl; fits = whole_written schema s h.0; stamps_fit = h.0.stamped; fitting = h.0.fitting; whole = refl }
 completes_at schema places.Within s o =
     let whole = whole_more schema s o in
@@ -337,7 +346,7 @@ completes_at schema places.Ended s h = record { version = s.version; journal = s
 pub record Ended (schema : Option (List Table)) (s : Standing) : Type 0 where
   pub whole : Whole schema s
   pub lines : lines_so_far s ≡ journal_lines s.version s.stamps s.journal
-  pub written : IsWritten s.journal
+  pub written : IsWritten (limits_of s.version) s.journal
 
 ended_at : (schema : Option (List Table)) (place : LinePlace) (s : Standing) → Sound_at schema place s → is_last place ≡ true → (Whole schema s) × (lines_so_far (placed place s) ≡ journal_lines s.version s.stamps s.journal)
 ended_at schema places.Ended s h last = (h.0, refl)

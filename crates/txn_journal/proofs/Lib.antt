@@ -18,6 +18,7 @@ pub mod Judged
 pub mod WordLaws
 pub mod FormatLaws
 pub mod SplitLaws
+pub mod ShapeWords
 pub mod ShapeLaws
 pub mod OwnReads
 pub mod TableSteps
@@ -28,6 +29,7 @@ pub mod EntrySteps
 pub mod BundleSound
 pub mod BundleLaws
 pub mod BundleKept
+pub mod Widening
 pub mod NewWords
 pub mod OneBundle
 pub mod ListedRows

@@ -27,7 +27,7 @@ use Rattle.rows.specs.Total.{key_eq_same, key_eq_self}
 use Rattle.rows.specs.WriteSet.{is_among}
 use Rattle.rows.proofs.Carriers.{carried_table, apply_keeps_carriers, primary_keys_decide, no_carriers}
 use Rattle.rows.proofs.Local.{get-with_row}
-use Rattle.rows.specs.declared.limits.Limits.TheVariants.{Narrow}
+use Rattle.rows.specs.declared.limits.Limits.{Limits}
 use Rattle.journal.specs.Writing.{is_image_writable}
 use Rattle.gtid_text.proofs.Turns.{chosen}
 use Rattle.txn_journal.specs.Lines.{◌>>=◌}
@@ -117,16 +117,16 @@ all_at P [] r h i = absurd i
 all_at P (x ∷ rs) r h (inl same) = subst P same h.0
 all_at P (x ∷ rs) r h (inr more) = all_at P rs r h.1 more
 
-abbrev IsWritable : TableRow → Type 0
-IsWritable r = is_image_writable Narrow r.row ≡ true
+abbrev IsWritable : Limits → TableRow → Type 0
+IsWritable limits r = is_image_writable limits r.row ≡ true
 
-all_writable : (rs : List TableRow) → list_all (λ r. is_image_writable Narrow r.row) rs ≡ true → AllByRecursion IsWritable rs
-all_writable [] e = tt
-all_writable (r ∷ rs) e = let both = and_parts (is_image_writable Narrow r.row) (list_all (λ r. is_image_writable Narrow r.row) rs) e in (both.0, all_writable rs both.1)
+all_writable : (limits : Limits) (rs : List TableRow) → list_all (λ r. is_image_writable limits r.row) rs ≡ true → AllByRecursion (IsWritable limits) rs
+all_writable limits [] e = tt
+all_writable limits (r ∷ rs) e = let both = and_parts (is_image_writable limits r.row) (list_all (λ r. is_image_writable limits r.row) rs) e in (both.0, all_writable limits rs both.1)
 
-writable_all : (rs : List TableRow) → AllByRecursion IsWritable rs → list_all (λ r. is_image_writable Narrow r.row) rs ≡ true
-writable_all [] h = refl
-writable_all (r ∷ rs) h = and_from (is_image_writable Narrow r.row) (list_all (λ r. is_image_writable Narrow r.row) rs) h.0 (writable_all rs h.1)
+writable_all : (limits : Limits) (rs : List TableRow) → AllByRecursion (IsWritable limits) rs → list_all (λ r. is_image_writable limits r.row) rs ≡ true
+writable_all limits [] h = refl
+writable_all limits (r ∷ rs) h = and_from (is_image_writable limits r.row) (list_all (λ r. is_image_writable limits r.row) rs) h.0 (writable_all limits rs h.1)
 
 -- the schema takes the row
 abbrev IsTaken : List Table → TableRow → Type 0
@@ -320,14 +320,14 @@ listed_put schema rows w =
     let same : n.new ≡ rows = primary_keys_decide schema n.new rows n.carriers w.carriers (λ k z. both_ways (get n.new k) (get rows k) (n.inside k) (λ row. there k row z)) in
     n.all ∙ (λ i. Ok (same i))
 
-pub listed_opening : (schema : List Table) (rs : List TableRow) (rows : Rows) → AreOpening schema rs rows → AreOpening schema (rows_listed rows) rows
-listed_opening schema rs rows o =
+pub listed_opening : (limits : Limits) (schema : List Table) (rs : List TableRow) (rows : Rows) → AreOpening limits schema rs rows → AreOpening limits schema (rows_listed rows) rows
+listed_opening limits schema rs rows o =
     let at = at_key schema rs rows in
     let listed : (P : TableRow → Type 0) → AllByRecursion P rs → AllByRecursion P (rows_listed rows) =
     λ P a. each P (entries rows) (entries_sorted rows) (λ k row f. at P o.put a k row (in_entries rows k row f)) in
     record {
-      fit = listed FitsRow o.fit;
-      writable = writable_all (rows_listed rows) (listed IsWritable (all_writable rs o.writable));
+      fit = listed (FitsRow limits) o.fit;
+      writable = writable_all limits (rows_listed rows) (listed (IsWritable limits) (all_writable limits rs o.writable));
       put = listed_put schema rows (record {
         carriers = carriers_all (start schema) rs rows (no_carriers schema) o.put;
         taken = at (IsTaken schema) o.put (all_taken (start schema) rs rows o.put);

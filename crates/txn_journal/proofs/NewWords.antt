@@ -1,5 +1,5 @@
 -- Words that are new, one after another.
-use Rattle.std.proofs.Common.{◌≡◌, ℕ, suc, ◌+◌, ◌-◌, ◌<◌, ◌≤◌, Bool, true, false, not, cond, List, [], ◌∷◌, ◌++◌, length, map, get_or, take, drop, Result, Err, refl, sym, ap, subst, ◌∙◌, Bor, arith}
+use Rattle.std.proofs.Common.{◌≡◌, ℕ, suc, ◌+◌, ◌-◌, ◌<◌, ◌≤◌, Bool, true, false, not, cond, List, [], ◌∷◌, ◌++◌, length, map, get_or, take, drop, Result, refl, sym, ap, subst, ◌∙◌, Bor, arith}
 use Rattle.std.specs.Prelude.{◌&&◌, ◌||◌, codes}
 use Rattle.std.specs.List.{list_any}
 use Rattle.std.specs.Str.{bytes_eq}
@@ -14,9 +14,9 @@ use Rattle.std.proofs.lemmas.Map.Text.{is_eq-slice_cmp}
 use Rattle.std.proofs.lemmas.Slice.Eq.{bytes_eq-Decides}
 use Rattle.lemmas.proofs.Tests.{or_twice}
 use Rattle.txn_journal.specs.Splits.{are_new_to, is_columns_text}
-use Rattle.txn_journal.specs.Shapes.{uniques_from}
+use Rattle.rows.specs.declared.limits.Limits.{Limits}
+use Rattle.txn_journal.specs.Shapes.{Behind, is_last_pair, hidden_behind, behind_from}
 use Rattle.txn_journal.specs.declared.fault.Cause.{Cause}
-use Rattle.txn_journal.specs.declared.fault.Cause.TheVariants as causes
 
 abbrev pub Word : Type 0
 Word = Bor (List ℕ)
@@ -70,12 +70,12 @@ new_next keys words new i d all lt so_far found inserted =
 
 -- ---- unique keys
 
-pub pair_step : (before pushed : List (List ℕ)) (left : List Word) (d e : Word) (all : Result (List (List ℕ)) Cause) → pushed ≡ before ++ (get_or left 1 e).now ∷ [] → 2 ≤ length left → uniques_from before (texts left) ≡ all → (bytes_eq (get_or left 0 d).now (codes "uk") && is_columns_text (get_or left 1 e).now) ≡ true → uniques_from pushed (texts (take (length left - 2) (drop 2 left))) ≡ all
-unfolding uniques_from
-pair_step before pushed [] d e all is_pushed two so_far is = absurd (omega arith)
-pair_step before pushed (x ∷ []) d e all is_pushed two so_far is = absurd (omega arith)
-pair_step before pushed (x ∷ y ∷ zs) d e all is_pushed two so_far is =
-    ap (λ (us : List (List ℕ)). uniques_from us (texts (take (length (x ∷ y ∷ zs) - 2) zs))) is_pushed
-    ∙ ap (λ (t : List Word). uniques_from (before ++ y.now ∷ []) (texts t)) (take_rest (x ∷ y ∷ zs) 2)
-    ∙ sym (ap (λ (b : Bool). cond b (uniques_from (before ++ y.now ∷ []) (texts zs)) (Err causes.Body)) is)
+pub pair_step : (limits : Limits) (before pushed : List (List ℕ)) (left : List Word) (d e : Word) (all : Result Behind Cause) → pushed ≡ before ++ (get_or left 1 e).now ∷ [] → 2 ≤ length left → behind_from limits before (texts left) ≡ all → (bytes_eq (get_or left 0 d).now (codes "uk") && is_columns_text (get_or left 1 e).now) ≡ true → behind_from limits pushed (texts (take (length left - 2) (drop 2 left))) ≡ all
+unfolding behind_from
+pair_step limits before pushed [] d e all is_pushed two so_far is = absurd (omega arith)
+pair_step limits before pushed (x ∷ []) d e all is_pushed two so_far is = absurd (omega arith)
+pair_step limits before pushed (x ∷ y ∷ zs) d e all is_pushed two so_far is =
+    ap (λ (us : List (List ℕ)). behind_from limits us (texts (take (length (x ∷ y ∷ zs) - 2) zs))) is_pushed
+    ∙ ap (λ (t : List Word). behind_from limits (before ++ y.now ∷ []) (texts t)) (take_rest (x ∷ y ∷ zs) 2)
+    ∙ sym (ap (λ (b : Bool). cond b (behind_from limits (before ++ y.now ∷ []) (texts zs)) (hidden_behind (is_last_pair limits x.now y.now (texts zs)) before y.now)) is)
     ∙ so_far

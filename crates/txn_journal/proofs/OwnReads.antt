@@ -12,8 +12,8 @@ use Rattle.gtid_text.specs.Grammar.{ParsesAsSource}
 use Rattle.gtid_text.proofs.Shown.{source_shown, spaced_joined}
 use Rattle.gtid_text.proofs.Single.{source_reads_back, source_spelled}
 use Rattle.gtid_set.proofs.SpanLemmas.{all_weaker}
-use Rattle.rows.specs.Names.{is_short_name}
-use Rattle.rows.specs.declared.limits.Limits.TheVariants.{Narrow}
+use Rattle.rows.specs.declared.limits.Limits.{Limits}
+use Rattle.txn_journal.specs.Versions.{limits_of, is_named}
 use Rattle.row_images.specs.Words.{first_word, others}
 use Rattle.journal_words.specs.Gtids.{is_ascii_byte, same_or_none, source_of_word}
 use Rattle.row_images.proofs.Counts.{lacks, word_alone, word_and_more, first_word-front, others-front, first_word-whole, others-whole}
@@ -28,7 +28,7 @@ use Rattle.txn_journal.specs.Spelling.{version_text}
 use Rattle.row_images.specs.Images.{values_text}
 use Rattle.txn_journal.specs.declared.bundle_draft.Word.{Word}
 use Rattle.txn_journal.specs.declared.lines.Version.{Version}
-use Rattle.txn_journal.specs.declared.lines.Version.TheVariants.{One, Two}
+use Rattle.txn_journal.specs.declared.lines.Version.TheVariants.{One, Two, Three}
 use Rattle.std.specs.FinSet as set
 use Rattle.lemmas.proofs.Lists.{all_true_append as joins}
 use Rattle.txn_journal.specs.WrittenSets.{set_text}
@@ -44,53 +44,53 @@ use Rattle.txn_journal.proofs.Judged.{then_both, if_both, some_both, found_weake
 use Rattle.txn_journal.proofs.WordLaws.{among_found, IsRestFault, ParsesAs, read_by, read_at, RestLaws, of_body, of_header}
 use Rattle.txn_journal.proofs.ImageLaws.{image_both, image_again}
 use Rattle.txn_journal.proofs.LineReads.{version_both, set_both, nothing_both, name_both, table_both, table_again, with_more, with_none, with_table as table_line}
-use Rattle.txn_journal.proofs.ShapeLaws.{shape_both, shape_again, shape_one}
+use Rattle.txn_journal.proofs.ShapeWords.{shape_both, shape_again, shape_one}
 
 -- what the rest of a table's line parses as
-abbrev pub shape_behind : Option (List ℕ) → Result Shape Cause
-shape_behind None = Err causes.Body
-shape_behind (Some text) = shape_in text
+abbrev pub shape_behind : Limits → Option (List ℕ) → Result Shape Cause
+shape_behind limits None = Err causes.Body
+shape_behind limits (Some text) = shape_in limits text
 
 -- what the rest of a line parses as
-unfoldable pub own_body : Option Version → Word → Option (List ℕ) → Result OwnLine Cause
-own_body due words.Bundle rest = version_in due rest >>= λ version. Ok (Heads version)
-own_body due words.Replica rest = replica_in rest >>= λ replica. Ok (Names replica)
-own_body due words.Opening rest = set_in rest >>= λ opened. Ok (Starts opened)
-own_body due words.Table rest = shape_behind rest >>= λ shape. Ok (Has shape)
-own_body due words.Row rest = table_in rest >>= λ table. image_in table.1 >>= λ row. Ok (Puts (record { table = table.0; row = row }))
-own_body due words.Channel rest = channel_in rest >>= λ channel. Ok (Opens channel)
-own_body due words.Done rest = nothing_in rest >>= λ nothing. Ok Done
+unfoldable pub own_body : Option Version → Limits → Word → Option (List ℕ) → Result OwnLine Cause
+own_body due limits words.Bundle rest = version_in due rest >>= λ version. Ok (Heads version)
+own_body due limits words.Replica rest = replica_in rest >>= λ replica. Ok (Names replica)
+own_body due limits words.Opening rest = set_in rest >>= λ opened. Ok (Starts opened)
+own_body due limits words.Table rest = shape_behind limits rest >>= λ shape. Ok (Has shape)
+own_body due limits words.Row rest = table_in limits rest >>= λ table. image_in table.1 >>= λ row. Ok (Puts (record { table = table.0; row = row }))
+own_body due limits words.Channel rest = channel_in limits rest >>= λ channel. Ok (Opens channel)
+own_body due limits words.Done rest = nothing_in rest >>= λ nothing. Ok Done
 
 -- what a line makes of what the lines before it have made
 unfoldable pub own_put : BundleStanding → OwnLine → Result BundleStanding Cause
 own_put s (Heads version) = Ok (record s { part = parts.Replica; version = version })
 own_put s (Names replica) = Ok (record s { part = after_replica s.version; bundle = bare replica set.empty [] })
 own_put s (Starts opened) = Ok (record s { part = parts.Tables; bundle = bare s.bundle.replica opened [] })
-own_put s (Has shape) = with_table s.tables shape >>= λ tables. Ok (record s { tables = tables })
-own_put s (Puts r) = cond (is_image_writable Narrow r.row) (put_row (after_tables s) r) (Err causes.Limit)
+own_put s (Has shape) = with_table (limits_of s.version) s.tables shape >>= λ tables. Ok (record s { tables = tables })
+own_put s (Puts r) = cond (is_image_writable (limits_of s.version) r.row) (put_row (after_tables s) r) (Err causes.Limit)
 own_put s (Opens c) = join_channel s c
 own_put s Done = Ok (record (after_tables s) { part = parts.Ended })
 
 -- a table's line
-table_step : (s : BundleStanding) (r : Result Shape Cause) → ((r >>= λ shape. with_table s.tables shape) >>= λ tables. Ok (record s { tables = tables })) ≡ ((r >>= λ shape. Ok (Has shape)) >>= own_put s)
+table_step : (s : BundleStanding) (r : Result Shape Cause) → ((r >>= λ shape. with_table (limits_of s.version) s.tables shape) >>= λ tables. Ok (record s { tables = tables })) ≡ ((r >>= λ shape. Ok (Has shape)) >>= own_put s)
 unfolding own_put
 table_step s (Ok shape) = refl
 table_step s (Err c) = refl
 
-step_reads : (s : BundleStanding) (w : Word) (rest : Option (List ℕ)) → own_step s w rest ≡ (own_body s.due w rest >>= own_put s)
+step_reads : (s : BundleStanding) (w : Word) (rest : Option (List ℕ)) → own_step s w rest ≡ (own_body s.due (limits_of s.version) w rest >>= own_put s)
 unfolding own_step version_line replica_line opening_line add_table_line added_table row_line channel_line done_line own_body own_put
 step_reads s words.Bundle rest = one_step (version_in s.due rest) Heads (own_put s)
 step_reads s words.Replica rest = one_step (replica_in rest) Names (own_put s)
 step_reads s words.Opening rest = one_step (set_in rest) Starts (own_put s)
 step_reads s words.Table None = refl
-step_reads s words.Table (Some text) = table_step s (shape_in text)
-step_reads s words.Row rest = two_steps (table_in rest) (λ table. image_in table.1) (λ table row. Puts (record { table = table.0; row = row })) (own_put s)
-step_reads s words.Channel rest = one_step (channel_in rest) Opens (own_put s)
+step_reads s words.Table (Some text) = table_step s (shape_in (limits_of s.version) text)
+step_reads s words.Row rest = two_steps (table_in (limits_of s.version) rest) (λ table. image_in table.1) (λ table row. Puts (record { table = table.0; row = row })) (own_put s)
+step_reads s words.Channel rest = one_step (channel_in (limits_of s.version) rest) Opens (own_put s)
 step_reads s words.Done rest = one_step (nothing_in rest) (λ nothing. Done) (own_put s)
 
-pub own_reads : (s : BundleStanding) (line : List ℕ) → judge_own s line ≡ (read_by (own_wording s) (own_body s.due) line >>= own_put s)
+pub own_reads : (s : BundleStanding) (line : List ℕ) → judge_own s line ≡ (read_by (own_wording s) (own_body s.due (limits_of s.version)) line >>= own_put s)
 unfolding judge_own
-own_reads s line = bind_assoc (due (is_due_in s.part) (word_of (first_word line))) (λ word. own_body s.due word (others line)) (λ word. own_step s word (others line)) (own_put s) (λ word. step_reads s word (others line))
+own_reads s line = bind_assoc (due (is_due_in s.part) (word_of (first_word line))) (λ word. own_body s.due (limits_of s.version) word (others line)) (λ word. own_step s word (others line)) (own_put s) (λ word. step_reads s word (others line))
 
 abbrev every_word : List Word
 every_word = words.Bundle ∷ words.Replica ∷ words.Opening ∷ words.Table ∷ words.Row ∷ words.Channel ∷ words.Done ∷ []
@@ -116,21 +116,21 @@ replica_both : (rest : Option (List ℕ)) → MatchResult (replica_in rest) (λ 
 replica_both None = tt
 replica_both (Some w) = some_both _ _ (source_of_word w) (λ id e. let f = source_word_found w id e in (ap Some f.0, f.1)) tt
 
-shape_behind_both : (rest : Option (List ℕ)) → MatchResult (shape_behind rest) (λ s. (rest ≡ Some (shape_text s)) × FitsShape s) IsBody
-shape_behind_both None = tt
-shape_behind_both (Some text) = found_weaker (shape_in text) _ _ _ (λ s f. (ap Some f.0, f.1)) (shape_both text)
+shape_behind_both : (limits : Limits) (rest : Option (List ℕ)) → MatchResult (shape_behind limits rest) (λ s. (rest ≡ Some (shape_text s)) × FitsShape limits s) IsBody
+shape_behind_both limits None = tt
+shape_behind_both limits (Some text) = found_weaker (shape_in limits text) _ _ _ (λ s f. (ap Some f.0, f.1)) (shape_both limits text)
 
 preserve_both : (text : List ℕ) (rest : Option (List ℕ)) → others text ≡ rest → MatchResult (preserve_in rest) (λ p. text ≡ first_word text ++ preserve_text p) IsBody
 preserve_both text None o = word_alone text o ∙ sym (append-nil (first_word text))
 preserve_both text (Some w) o = if_both _ _ (bytes_eq w (codes "preserve")) _ _ (λ is. word_and_more text w o ∙ ap (λ (x : List ℕ). first_word text ++ 32 ∷ x) ((bytes_eq-Decides w (codes "preserve")).0 is)) (λ no. tt)
 
-channel_both : (rest : Option (List ℕ)) → MatchResult (channel_in rest) (λ c. (rest ≡ Some (c.name ++ preserve_text c.preserve)) × (is_short_name c.name ≡ true)) IsBody
+channel_both : (limits : Limits) (rest : Option (List ℕ)) → MatchResult (channel_in limits rest) (λ c. (rest ≡ Some (c.name ++ preserve_text c.preserve)) × (is_named limits c.name ≡ true)) IsBody
 unfolding channel_in
-channel_both None = tt
-channel_both (Some text) = then_both _ _ (some_or_body (name_of (first_word text))) _ (name_both (first_word text)) (λ name n. then_both _ _ (preserve_in (others text)) _ (preserve_both text (others text) refl)
+channel_both limits None = tt
+channel_both limits (Some text) = then_both _ _ (some_or_body (name_of limits (first_word text))) _ (name_both limits (first_word text)) (λ name n. then_both _ _ (preserve_in (others text)) _ (preserve_both text (others text) refl)
     (λ p f. (ap Some (f ∙ ap (λ (w : List ℕ). w ++ preserve_text p) n.0), n.1)))
 
-rest_both : (s : BundleStanding) (k : Word) (line : List ℕ) → first_word line ≡ own_word_text k → MatchResult (own_body s.due k (others line)) (ParsesAs (own_wording s) k line) (IsRestFault (own_wording s) k (others line))
+rest_both : (s : BundleStanding) (k : Word) (line : List ℕ) → first_word line ≡ own_word_text k → MatchResult (own_body s.due (limits_of s.version) k (others line)) (ParsesAs (own_wording s) k line) (IsRestFault (own_wording s) k (others line))
 unfolding own_body
 rest_both s words.Bundle line first =
     of_header (own_wording s) (others line) (ParsesAs (own_wording s) words.Bundle line) _ (then_both _ _ (version_in s.due (others line)) _ (version_both s.due (others line)) (λ v f. record { text = with_more line (codes "bundle") (version_text v) first f.0; fits = f.1; word = refl }))
@@ -139,34 +139,35 @@ rest_both s words.Replica line first =
 rest_both s words.Opening line first =
     of_body (own_wording s) words.Opening (others line) (ParsesAs (own_wording s) words.Opening line) _ (then_both _ _ (set_in (others line)) _ (set_both (others line)) (λ p f. record { text = with_more line (codes "opening") (set_text p) first f.0; fits = f.1; word = refl }))
 rest_both s words.Table line first =
-    of_body (own_wording s) words.Table (others line) (ParsesAs (own_wording s) words.Table line) _ (then_both _ _ (shape_behind (others line)) _ (shape_behind_both (others line)) (λ shape f. record { text = with_more line (codes "table") (shape_text shape) first f.0; fits = f.1; word = refl }))
+    of_body (own_wording s) words.Table (others line) (ParsesAs (own_wording s) words.Table line) _ (then_both _ _ (shape_behind (limits_of s.version) (others line)) _ (shape_behind_both (limits_of s.version) (others line)) (λ shape f. record { text = with_more line (codes "table") (shape_text shape) first f.0; fits = f.1; word = refl }))
 rest_both s words.Row line first =
-    of_body (own_wording s) words.Row (others line) (ParsesAs (own_wording s) words.Row line) _ (then_both _ _ (table_in (others line)) _ (table_both (others line)) (λ t h. then_both _ _ (image_in t.1) _ (image_both t.1)
+    of_body (own_wording s) words.Row (others line) (ParsesAs (own_wording s) words.Row line) _ (then_both _ _ (table_in (limits_of s.version) (others line)) _ (table_both (limits_of s.version) (others line)) (λ t h. then_both _ _ (image_in t.1) _ (image_both t.1)
     (λ row f. record { text = table_line line (codes "row") t.0 t.1 (values_text row) first h.0 f.0; fits = record { name = h.1; values = f.1; some = f.2 }; word = refl })))
 rest_both s words.Channel line first =
-    of_body (own_wording s) words.Channel (others line) (ParsesAs (own_wording s) words.Channel line) _ (then_both _ _ (channel_in (others line)) _ (channel_both (others line)) (λ c f. record { text = with_more line (codes "channel") (c.name ++ preserve_text c.preserve) first f.0; fits = f.1; word = refl }))
+    of_body (own_wording s) words.Channel (others line) (ParsesAs (own_wording s) words.Channel line) _ (then_both _ _ (channel_in (limits_of s.version) (others line)) _ (channel_both (limits_of s.version) (others line)) (λ c f. record { text = with_more line (codes "channel") (c.name ++ preserve_text c.preserve) first f.0; fits = f.1; word = refl }))
 rest_both s words.Done line first =
     of_body (own_wording s) words.Done (others line) (ParsesAs (own_wording s) words.Done line) _ (then_both _ _ (nothing_in (others line)) _ (nothing_both (others line)) (λ u none. record { text = with_none line (codes "done") first none; fits = tt; word = refl }))
 
 -- ---- reading is complete
 
-channel_again : (name : List ℕ) (p : Bool) → is_short_name name ≡ true → channel_in (Some (name ++ preserve_text p)) ≡ Ok (record { name = name; preserve = p })
+channel_again : (limits : Limits) (name : List ℕ) (p : Bool) → is_named limits name ≡ true → channel_in limits (Some (name ++ preserve_text p)) ≡ Ok (record { name = name; preserve = p })
 unfolding channel_in
-channel_again name false e = rw (append-nil name, others-whole name (name_no_blank name e), first_word-whole name (name_no_blank name e), e) refl
-channel_again name true e = rw (others-front name (codes "preserve") (name_no_blank name e), first_word-front name (codes "preserve") (name_no_blank name e), e) refl
+channel_again limits name false e = rw (append-nil name, others-whole name (name_no_blank limits name e), first_word-whole name (name_no_blank limits name e), e) refl
+channel_again limits name true e = rw (others-front name (codes "preserve") (name_no_blank limits name e), first_word-front name (codes "preserve") (name_no_blank limits name e), e) refl
 
-own_again : (st : BundleStanding) (l : OwnLine) → is_due_in st.part (own_word l) ≡ true → FitsOwn st.due l → read_by (own_wording st) (own_body st.due) (own_text l) ≡ Ok l
+own_again : (st : BundleStanding) (l : OwnLine) → is_due_in st.part (own_word l) ≡ true → FitsOwn st.due (limits_of st.version) l → read_by (own_wording st) (own_body st.due (limits_of st.version)) (own_text l) ≡ Ok l
 unfolding own_body
-own_again st (Heads One) is fits = read_at (own_wording st) (own_body st.due) (own_text (Heads One)) words.Bundle (Some (codes "1")) refl refl refl is ∙ rw fits refl
-own_again st (Heads Two) is fits = read_at (own_wording st) (own_body st.due) (own_text (Heads Two)) words.Bundle (Some (codes "2")) refl refl refl is ∙ rw fits refl
-own_again st (Starts p) is fits = read_at (own_wording st) (own_body st.due) (own_text (Starts p)) words.Opening (Some (set_text p)) refl refl refl is ∙ rw (set_again p fits) refl
-own_again st (Names id) is fits = read_at (own_wording st) (own_body st.due) (own_text (Names id)) words.Replica (Some (source_text id)) refl refl refl is ∙ rw (source_word_again id fits) refl
-own_again st (Has s) is fits = read_at (own_wording st) (own_body st.due) (own_text (Has s)) words.Table (Some (shape_text s)) refl refl refl is ∙ rw (shape_again s fits) refl
-own_again st (Puts r) is fits = read_at (own_wording st) (own_body st.due) (own_text (Puts r)) words.Row (Some (r.table ++ 32 ∷ values_text r.row)) refl refl refl is ∙ rw (table_again r.table (values_text r.row) fits.name, image_again r.row fits.some fits.values) refl
-own_again st (Opens c) is fits = read_at (own_wording st) (own_body st.due) (own_text (Opens c)) words.Channel (Some (c.name ++ preserve_text c.preserve)) refl refl refl is ∙ rw (channel_again c.name c.preserve fits) refl
-own_again st Done is fits = read_at (own_wording st) (own_body st.due) (own_text Done) words.Done None refl refl refl is
+own_again st (Heads One) is fits = read_at (own_wording st) (own_body st.due (limits_of st.version)) (own_text (Heads One)) words.Bundle (Some (codes "1")) refl refl refl is ∙ rw fits refl
+own_again st (Heads Two) is fits = read_at (own_wording st) (own_body st.due (limits_of st.version)) (own_text (Heads Two)) words.Bundle (Some (codes "2")) refl refl refl is ∙ rw fits refl
+own_again st (Heads Three) is fits = read_at (own_wording st) (own_body st.due (limits_of st.version)) (own_text (Heads Three)) words.Bundle (Some (codes "3")) refl refl refl is ∙ rw fits refl
+own_again st (Starts p) is fits = read_at (own_wording st) (own_body st.due (limits_of st.version)) (own_text (Starts p)) words.Opening (Some (set_text p)) refl refl refl is ∙ rw (set_again p fits) refl
+own_again st (Names id) is fits = read_at (own_wording st) (own_body st.due (limits_of st.version)) (own_text (Names id)) words.Replica (Some (source_text id)) refl refl refl is ∙ rw (source_word_again id fits) refl
+own_again st (Has s) is fits = read_at (own_wording st) (own_body st.due (limits_of st.version)) (own_text (Has s)) words.Table (Some (shape_text s)) refl refl refl is ∙ rw (shape_again (limits_of st.version) s fits) refl
+own_again st (Puts r) is fits = read_at (own_wording st) (own_body st.due (limits_of st.version)) (own_text (Puts r)) words.Row (Some (r.table ++ 32 ∷ values_text r.row)) refl refl refl is ∙ rw (table_again (limits_of st.version) r.table (values_text r.row) fits.name, image_again r.row fits.some fits.values) refl
+own_again st (Opens c) is fits = read_at (own_wording st) (own_body st.due (limits_of st.version)) (own_text (Opens c)) words.Channel (Some (c.name ++ preserve_text c.preserve)) refl refl refl is ∙ rw (channel_again (limits_of st.version) c.name c.preserve fits) refl
+own_again st Done is fits = read_at (own_wording st) (own_body st.due (limits_of st.version)) (own_text Done) words.Done None refl refl refl is
 
-pub own_laws : (s : BundleStanding) → RestLaws (own_wording s) (own_body s.due)
+pub own_laws : (s : BundleStanding) → RestLaws (own_wording s) (own_body s.due (limits_of s.version))
 own_laws s = record { found = λ t k e. among_found own_word_text every_word t k e; reads = rest_both s; again = own_again s }
 
 -- no line feed is in it
@@ -174,12 +175,13 @@ preserve_one : (p : Bool) → lacks 10 (preserve_text p) ≡ true
 preserve_one true = refl
 preserve_one false = refl
 
-pub own_one : (due : Option Version) (l : OwnLine) → FitsOwn due l → lacks 10 (own_text l) ≡ true
-own_one due (Heads One) fits = refl
-own_one due (Heads Two) fits = refl
-own_one due (Starts p) fits = set_no_feeds p fits
-own_one due (Names id) fits = all_weaker is_set_byte (λ b. not (eqb b 10)) (source_text id) set_no_feed (source_set id)
-own_one due (Has s) fits = shape_one s fits
-own_one due (Puts r) fits = table_one r.table (values_text r.row) (name_no_feed r.table fits.name) (values_one r.row fits.values)
-own_one due (Opens c) fits = joins (λ b. not (eqb b 10)) c.name (preserve_text c.preserve) (name_no_feed c.name fits) (preserve_one c.preserve)
-own_one due Done fits = refl
+pub own_one : (due : Option Version) (limits : Limits) (l : OwnLine) → FitsOwn due limits l → lacks 10 (own_text l) ≡ true
+own_one due limits (Heads One) fits = refl
+own_one due limits (Heads Two) fits = refl
+own_one due limits (Heads Three) fits = refl
+own_one due limits (Starts p) fits = set_no_feeds p fits
+own_one due limits (Names id) fits = all_weaker is_set_byte (λ b. not (eqb b 10)) (source_text id) set_no_feed (source_set id)
+own_one due limits (Has s) fits = shape_one limits s fits
+own_one due limits (Puts r) fits = table_one r.table (values_text r.row) (name_no_feed limits r.table fits.name) (values_one r.row fits.values)
+own_one due limits (Opens c) fits = joins (λ b. not (eqb b 10)) c.name (preserve_text c.preserve) (name_no_feed limits c.name fits) (preserve_one c.preserve)
+own_one due limits Done fits = refl

@@ -17,10 +17,14 @@ use Rattle.gtid_set.specs.Sets.{Gtids, greatest}
 use Rattle.gtid_set.proofs.SpanLemmas.{all_push}
 use Rattle.rows.specs.declared.change.Change.{Change}
 use Rattle.rows.specs.declared.schema.Table.{Table}
-use Rattle.rows.specs.declared.limits.Limits.TheVariants.{Narrow}
+use Rattle.rows.specs.Limits.{most_changes}
+use Rattle.txn_journal.specs.Versions.{limits_of}
+use Rattle.rows.specs.declared.limits.Limits.{Limits}
+use Rattle.rows.specs.declared.limits.Limits.TheVariants.{Narrow, Wide}
 use Rattle.journal.specs.declared.Entry.{Entry}
 use Rattle.journal.specs.Journals.{AreNew}
-use Rattle.journal.specs.Writing.{is_number, is_change_writable, is_writable}
+use Rattle.row_images.specs.declared.value.Value.{Value}
+use Rattle.journal.specs.Writing.{is_number, is_image_writable, is_change_writable, is_writable}
 use Rattle.txn_journal.specs.WrittenSets.{IsWrittenSet}
 use Rattle.txn_journal.specs.Due.{is_due}
 use Rattle.txn_journal.specs.Lines.{Numbers, takes, is_place, below, stamp_in}
@@ -30,10 +34,10 @@ use Rattle.txn_journal.specs.LinesSoFar.{lines_so_far}
 use Rattle.txn_journal.specs.declared.lines.LinePlace.{LinePlace}
 use Rattle.txn_journal.specs.declared.lines.LinePlace.TheVariants as places
 use Rattle.txn_journal.specs.declared.lines.Version.{Version}
-use Rattle.txn_journal.specs.declared.lines.Version.TheVariants.{One, Two}
+use Rattle.txn_journal.specs.declared.lines.Version.TheVariants.{One, Two, Three}
 use Rattle.txn_journal.specs.Wordings.{ParsesAsLine}
 use Rattle.txn_journal.specs.Causes.{word_for, HasNumbers, PassesLimit, wording, HasCause}
-use Rattle.journal.proofs.WritableLemmas.{all_widened}
+use Rattle.journal.proofs.WritableLemmas.{widened, all_widened, wide_image}
 use Rattle.txn_journal.proofs.GtidLaws.{written_numbers}
 use Rattle.txn_journal.proofs.Judged.{if_both}
 use Rattle.txn_journal.proofs.WordLaws.{judged_both}
@@ -56,9 +60,9 @@ fits_in schema e = list_all (fits schema) e.txn.changes
 pub record Whole (schema : Option (List Table)) (s : Standing) : Type 0 where
   pub due : takes s.due s.version ≡ true
   pub new : AreNew s.journal.previous s.journal.entries
-  pub writable : list_all (is_writable Narrow) s.journal.entries ≡ true
+  pub writable : list_all (is_writable (limits_of s.version)) s.journal.entries ≡ true
   pub previous : IsWrittenSet s.journal.previous
-  pub fits : AllByRecursion FitsEntry s.journal.entries
+  pub fits : AllByRecursion (FitsEntry (limits_of s.version)) s.journal.entries
   pub fitting : list_all (fits_in schema) s.journal.entries ≡ true
   pub stamped : AreStamps s.version 1 s.stamps s.journal.entries
   pub all_seen : s.seen ≡ seen_after s.journal.previous s.journal.entries
@@ -72,10 +76,10 @@ pub record Opened (schema : Option (List Table)) (s : Standing) : Type 0 where
   pub usable : IsUsable s.gtid
   pub stamp : IsStamp s.version (s.count + 1) s.stamp
   pub room : s.count < 4294967294
-  pub few : length s.changes ≤ 65536
-  pub writable : list_all (is_change_writable Narrow) s.changes ≡ true
+  pub few : length s.changes ≤ most_changes (limits_of s.version)
+  pub writable : list_all (is_change_writable (limits_of s.version)) s.changes ≡ true
   pub taken : list_all (fits schema) s.changes ≡ true
-  pub fits : AllByRecursion FitsChange s.changes
+  pub fits : AllByRecursion (FitsChange (limits_of s.version)) s.changes
 
 pub record FreshStart (s : Standing) : Type 0 where
   pub none_stamped : s.stamps ≡ []
@@ -124,8 +128,21 @@ lines_more version place (l ∷ ls) (f ∷ fs) stamp e h =
 lines_more version place [] (f ∷ fs) stamp e h = absurd h
 lines_more version place (l ∷ ls) [] stamp e h = absurd h
 
-entry_writable : (s : Standing) → is_number s.gtid.number ≡ true → length s.changes ≤ 65536 → list_all (is_change_writable Narrow) s.changes ≡ true → is_writable Narrow (open_entry s) ≡ true
-entry_writable s number few all = rw (number, le-leb (length s.changes) 65536 few, all) refl
+-- what is within any limits is within the widest
+pub all_wide : (limits : Limits) (es : List Entry) → list_all (is_writable limits) es ≡ true → list_all (is_writable Wide) es ≡ true
+all_wide Narrow es h = all_widened es h
+all_wide Wide es h = h
+
+pub image_wide : (limits : Limits) (image : List Value) → is_image_writable limits image ≡ true → is_image_writable Wide image ≡ true
+image_wide Narrow image h = wide_image image h
+image_wide Wide image h = h
+
+pub wide_entry : (limits : Limits) (e : Entry) → is_writable limits e ≡ true → is_writable Wide e ≡ true
+wide_entry Narrow e h = widened e h
+wide_entry Wide e h = h
+
+entry_writable : (s : Standing) → is_number s.gtid.number ≡ true → length s.changes ≤ most_changes (limits_of s.version) → list_all (is_change_writable (limits_of s.version)) s.changes ≡ true → is_writable (limits_of s.version) (open_entry s) ≡ true
+entry_writable s number few all = rw (number, le-leb (length s.changes) (most_changes (limits_of s.version)) few, all) refl
 
 pub whole_more : (schema : Option (List Table)) (s : Standing) → Opened schema s → Whole schema (close_entry s)
 whole_more schema s o =
@@ -135,9 +152,9 @@ whole_more schema s o =
     record {
       due = w.due;
       new = new_more j.previous j.entries (open_entry s) w.new (ap (λ (seen : Gtids). set.contains seen s.gtid) (sym w.all_seen) ∙ o.unseen);
-      writable = all_push (is_writable Narrow) j.entries (open_entry s) w.writable (entry_writable s o.number o.few o.writable);
+      writable = all_push (is_writable (limits_of s.version)) j.entries (open_entry s) w.writable (entry_writable s o.number o.few o.writable);
       previous = w.previous;
-      fits = all_more FitsEntry j.entries (open_entry s) w.fits (record { source = o.usable.source; changes = o.fits });
+      fits = all_more (FitsEntry (limits_of s.version)) j.entries (open_entry s) w.fits (record { source = o.usable.source; changes = o.fits });
       fitting = all_push (fits_in schema) j.entries (open_entry s) w.fitting o.taken;
       stamped = stamps_more s.version 1 s.stamps j.entries s.stamp (open_entry s) w.stamped (subst (λ (n : ℕ). IsStamp s.version n s.stamp) at o.stamp);
       all_seen = ap (λ (seen : Gtids). set.insert seen s.gtid) w.all_seen ∙ sym (seen_more j.previous j.entries (open_entry s));
@@ -170,10 +187,9 @@ below_found place stamp (Some n) e = elim (chosen (nat_lt n place) (Some n) None
   | inr p ↦ absurd cc
 ]
 
--- they are those of its place
-pub numbers_found : (version : Version) (place stamp : ℕ) (numbers : Option Numbers) → HasNumbers version numbers → stamp_in place numbers ≡ Some stamp → (numbers ≡ numbers_of version place stamp) × IsStamp version place stamp
-numbers_found One place stamp None has e = (refl, sym (same_Some 0 stamp e))
-numbers_found Two place stamp (Some n) has e = elim (chosen (is_place place (count_of n.sequence_number)) (below place (count_of n.last_committed)) None (Some stamp) e) [
+-- they are those of its place, where they are written
+numbers_are : (place stamp : ℕ) (n : Numbers) → stamp_in place (Some n) ≡ Some stamp → (Some n ≡ numbers_of Two place stamp) × (stamp < place)
+numbers_are place stamp n e = elim (chosen (is_place place (count_of n.sequence_number)) (below place (count_of n.last_committed)) None (Some stamp) e) [
   | inl p ↦
       let sequence_number = count_found n.sequence_number place (place_found place (count_of n.sequence_number) p.0) in
       let b = below_found place stamp (count_of n.last_committed) p.1 in
@@ -181,8 +197,15 @@ numbers_found Two place stamp (Some n) has e = elim (chosen (is_place place (cou
       (λ i. Some (record { last_committed = last_committed.0 i; sequence_number = sequence_number.0 i }), b.1)
   | inr p ↦ absurd cc
 ]
-numbers_found One place stamp (Some n) has e = absurd has
-numbers_found Two place stamp None has e = absurd has
+
+-- they are those of its place
+pub numbers_found : (version : Version) (place stamp : ℕ) (numbers : Option Numbers) → HasNumbers version numbers → stamp_in place numbers ≡ Some stamp → (numbers ≡ numbers_of version place stamp) × IsStamp version place stamp
+numbers_found One place stamp None has e = (refl, sym (same_Some 0 stamp e))
+numbers_found Two place stamp (Some n) has e = numbers_are place stamp n e
+numbers_found Three place stamp (Some n) has e = numbers_are place stamp n e
+numbers_found One place stamp (Some n) has e = absurd cc
+numbers_found Two place stamp None has e = absurd cc
+numbers_found Three place stamp None has e = absurd cc
 
 -- ---- one line more
 
@@ -230,23 +253,23 @@ begin_both schema s line g numbers P h more =
         (λ unseen. found stamp e unseen)
 
 pub add_both : (schema : Option (List Table)) (s : Standing) (line : List ℕ) (c : Change) (P : Standing → Type 0) → ParsesAsLine (wording schema s) line (Makes c)
-    → (length s.changes < 65536 → is_change_writable Narrow c ≡ true → fits schema c ≡ true → P (record s { changes = s.changes ++ c ∷ [] })) → MatchResult (add schema s c) P (HasCause schema s line)
+    → (length s.changes < most_changes (limits_of s.version) → is_change_writable (limits_of s.version) c ≡ true → fits schema c ≡ true → P (record s { changes = s.changes ++ c ∷ [] })) → MatchResult (add schema s c) P (HasCause schema s line)
 unfolding add
 add_both schema s line c P h more =
-    if_both P (HasCause schema s line) (leb 65536 (length s.changes) || not (is_change_writable Narrow c)) _ _ (λ passes. (Makes c, h, limit_of s c passes))
-    (λ within. let w = or_parts (leb 65536 (length s.changes)) (not (is_change_writable Narrow c)) within in
+    if_both P (HasCause schema s line) (leb (most_changes (limits_of s.version)) (length s.changes) || not (is_change_writable (limits_of s.version) c)) _ _ (λ passes. (Makes c, h, limit_of s c passes))
+    (λ within. let w = or_parts (leb (most_changes (limits_of s.version)) (length s.changes)) (not (is_change_writable (limits_of s.version) c)) within in
     if_both P (HasCause schema s line) (not (fits schema c)) _ _ (λ misfit. (Makes c, h, within_limits s c w.0 w.1, not-true (fits schema c) misfit))
-    (λ taken. more (leb-false _ _ w.0) (not-false (is_change_writable Narrow c) w.1) (not-false (fits schema c) taken)))
+    (λ taken. more (leb-false _ _ w.0) (not-false (is_change_writable (limits_of s.version) c) w.1) (not-false (fits schema c) taken)))
   where
-    limit_of : (s : Standing) (x : Change) → (leb 65536 (length s.changes) || not (is_change_writable Narrow x)) ≡ true → PassesLimit s (Makes x)
-    limit_of s x e = elim (or_cases (leb 65536 (length s.changes)) (not (is_change_writable Narrow x)) e) [
+    limit_of : (s : Standing) (x : Change) → (leb (most_changes (limits_of s.version)) (length s.changes) || not (is_change_writable (limits_of s.version) x)) ≡ true → PassesLimit s (Makes x)
+    limit_of s x e = elim (or_cases (leb (most_changes (limits_of s.version)) (length s.changes)) (not (is_change_writable (limits_of s.version) x)) e) [
       | inl p ↦ inl (leb-true _ _ p)
-      | inr p ↦ inr (not-true (is_change_writable Narrow x) p)
+      | inr p ↦ inr (not-true (is_change_writable (limits_of s.version) x) p)
     ]
 
-    within_limits : (s : Standing) (x : Change) → leb 65536 (length s.changes) ≡ false → not (is_change_writable Narrow x) ≡ false → PassesLimit s (Makes x) → ⊥
-    within_limits s x few short (inl many) = let k = le-leb 65536 (length s.changes) many in cc
-    within_limits s x few short (inr long) = let m : not (is_change_writable Narrow x) ≡ true = ap not long in cc
+    within_limits : (s : Standing) (x : Change) → leb (most_changes (limits_of s.version)) (length s.changes) ≡ false → not (is_change_writable (limits_of s.version) x) ≡ false → PassesLimit s (Makes x) → ⊥
+    within_limits s x few short (inl many) = let k = le-leb (most_changes (limits_of s.version)) (length s.changes) many in cc
+    within_limits s x few short (inr long) = let m : not (is_change_writable (limits_of s.version) x) ≡ true = ap not long in cc
 
 no_change : (place : LinePlace) (c : Change) → is_due place (word_for (Makes c)) ≡ true → place ≡ places.Within
 no_change place c e = grind arith
@@ -258,7 +281,7 @@ again schema s place g stamp cs w = record { due = w.due; new = w.new; writable 
 keeps_at : (schema : Option (List Table)) (place : LinePlace) (s : Standing) (line : List ℕ) (l : Line) → Sound_at schema place s → is_due place (word_for l) ≡ true → ParsesAsLine (wording schema (placed place s)) line l
     → MatchResult (put schema (placed place s) l) (Keeps schema (placed place s) l) (HasCause schema (placed place s) line)
 unfolding put
-keeps_at schema places.Header s line (Header v) h is k = record { same_due = refl; says = refl; goes = record { stamps = refl; entries = refl }; sound = (record { none_stamped = h.none_stamped; none_counted = h.none_counted; none_open = h.none_open }, k.fits.of_version) }
+keeps_at schema places.Header s line (Header v) h is k = record { same_due = refl; says = refl; goes = record { stamps = refl; entries = refl }; sound = (record { none_stamped = h.none_stamped; none_counted = h.none_counted; none_open = refl }, k.fits.of_version) }
 keeps_at schema places.Previous s line (Previous p) h is k = record {
   same_due = refl;
   says = ap (λ (ls : List ℕ). opening_lines s.version p ++ entries_lines s.version 1 ls []) h.0.none_stamped;
@@ -294,8 +317,8 @@ keeps_at schema places.Between s line (Begin x numbers) h is k =
         stamp = f.1;
         room = room;
         few = omega (arith, ap length h.1);
-        writable = ap (list_all (is_change_writable Narrow)) h.1;
-        fits = subst (λ (ds : List Change). AllByRecursion FitsChange ds) (sym h.1) tt;
+        writable = ap (list_all (is_change_writable (limits_of s.version))) h.1;
+        fits = subst (λ (ds : List Change). AllByRecursion (FitsChange (limits_of s.version)) ds) (sym h.1) tt;
         taken = ap (list_all (fits schema)) h.1;
       };
     })
@@ -315,8 +338,8 @@ keeps_at schema places.Within s line (Makes c) h is k =
         stamp = h.stamp;
         room = h.room;
         few = omega (arith, room, length-append s.changes (c ∷ []));
-        writable = all_push (is_change_writable Narrow) s.changes c h.writable writable;
-        fits = all_more FitsChange s.changes c h.fits k.fits.words;
+        writable = all_push (is_change_writable (limits_of s.version)) s.changes c h.writable writable;
+        fits = all_more (FitsChange (limits_of s.version)) s.changes c h.fits k.fits.words;
         taken = all_push (fits schema) s.changes c h.taken taken;
       };
     })
@@ -336,5 +359,5 @@ judged_line schema s line h =
     rw (judge_reads schema s line) (judged_both (wording schema s) (body_of s.due s.version) (rest_laws schema s) (Taken schema s line) (put schema s) line
     (λ l k. MatchResult-weaker (put schema s l) (keeps_at schema s.place s line l h k.due k) (λ t m. record { l = l; text = k.text; due = k.due; keeps = m }) (λ c m. m)))
 
-pub whole_written : (schema : Option (List Table)) (s : Standing) → Whole schema s → IsWritten s.journal
-whole_written schema s w = record { keeps = record { numbers = written_numbers s.journal.previous w.previous; new = w.new; writable = all_widened s.journal.entries w.writable }; writable = w.writable; few = omega (arith, w.few, w.counted); previous = w.previous; entries = w.fits }
+pub whole_written : (schema : Option (List Table)) (s : Standing) → Whole schema s → IsWritten (limits_of s.version) s.journal
+whole_written schema s w = record { keeps = record { numbers = written_numbers s.journal.previous w.previous; new = w.new; writable = all_wide (limits_of s.version) s.journal.entries w.writable }; writable = w.writable; few = omega (arith, w.few, w.counted); previous = w.previous; entries = w.fits }

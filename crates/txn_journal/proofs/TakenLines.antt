@@ -25,7 +25,8 @@ use Rattle.txn_journal.specs.declared.lines.Keyword.TheVariants as keywords
 use Rattle.txn_journal.proofs.WordLaws.{read_by, read_both, judged_both}
 use Rattle.txn_journal.proofs.LineReads.{body_of, put, judge_reads, rest_laws}
 use Rattle.txn_journal.proofs.SoundLines.{begin_both, add_both}
-use Rattle.rows.specs.declared.limits.Limits.TheVariants.{Narrow}
+use Rattle.rows.specs.Limits.{most_changes}
+use Rattle.txn_journal.specs.Versions.{limits_of}
 
 abbrev with_taken : Stamped → Standing → Standing
 with_taken front s = record s { journal = in_front front.entries s.journal; stamps = front.stamps ++ s.stamps }
@@ -62,7 +63,7 @@ put_behind front s (Begin g numbers) b e =
     (behind_cond front (leb 4294967294 s.count) causes.Limit third _ (stamped_behind front s g (stamp_in (s.count + 1) numbers)))
 put_behind front s (Makes c) b e =
     let last : Result Standing Cause = Ok (record s { changes = s.changes ++ c ∷ [] }) in
-    behind_cond front (leb 65536 (length s.changes) || not (is_change_writable Narrow c)) causes.Limit last _ refl
+    behind_cond front (leb (most_changes (limits_of s.version)) (length s.changes) || not (is_change_writable (limits_of s.version) c)) causes.Limit last _ refl
 put_behind front s End b e =
     let one : Entry = record { gtid = s.gtid; txn = record { changes = s.changes } } in
     λ i. ok_standing (record (close_entry s) { journal = record s.journal { entries = append_assoc front.entries s.journal.entries (one ∷ []) i }; stamps = append_assoc front.stamps s.stamps (s.stamp ∷ []) i })

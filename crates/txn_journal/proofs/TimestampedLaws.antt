@@ -7,11 +7,12 @@ use Rattle.txn_journal.specs.Machine.{Standing, header_line, step, judge}
 use Rattle.txn_journal.specs.Stream.{Progress, Stopped, feed_byte, IsWhole}
 use Rattle.txn_journal.specs.Formats.{closing_by}
 use Rattle.txn_journal.specs.Reading.{WrittenJournal, feed_journal_bytes}
+use Rattle.rows.specs.declared.limits.Limits.TheVariants.{Narrow}
 use Rattle.txn_journal.specs.Spelling.{IsWritten, WritesAs}
 use Rattle.txn_journal.specs.Timestamped.{TimestampedValue, timestamped_of, WritesTimestamped, timestamped_journals, with_timestamps, timestamped_text, HasText, IsReadBack, timestamped_start, closing_timestamped, BeginsAsVersionOne, first_line_version}
 use Rattle.txn_journal.specs.declared.fault.JournalFault.{JournalFault}
 use Rattle.txn_journal.specs.declared.lines.Version.{Version}
-use Rattle.txn_journal.specs.declared.lines.Version.TheVariants.{One, Two}
+use Rattle.txn_journal.specs.declared.lines.Version.TheVariants.{One, Two, Three}
 use Rattle.txn_journal.proofs.Pieces.{eats_append, stopped_stays}
 use Rattle.txn_journal.proofs.FormatLaws.{Laws, reads_back}
 use Rattle.txn_journal.proofs.JournalLaws.{IsSoundAlone, laws_as}
@@ -20,6 +21,7 @@ use Rattle.txn_journal.proofs.BundleLaws.{right_are_stamps}
 due_two : (version : Version) (stamps bytes : List ℕ) (j : JournalValue) → takes (Some Two) version ≡ true → WritesAs version stamps bytes j → WritesAs Two stamps bytes j
 due_two One stamps bytes j is w = absurd (let k = is in cc)
 due_two Two stamps bytes j is w = w
+due_two Three stamps bytes j is w = absurd (let k = is in cc)
 
 pub timestamped_laws : Laws timestamped_journals (IsSoundAlone (Some Two))
 timestamped_laws = laws_as (Some Two) timestamped_of WritesTimestamped (record {
@@ -29,10 +31,10 @@ timestamped_laws = laws_as (Some Two) timestamped_of WritesTimestamped (record {
 
 -- the text with the numbers that its keys give
 
-pub right_text : (tables : List Table) (j : JournalValue) → IsWritten j → HasText (with_timestamps tables j)
+pub right_text : (tables : List Table) (j : JournalValue) → IsWritten Narrow j → HasText (with_timestamps tables j)
 right_text tables j w = record { written = w; stamps_fit = right_are_stamps Two tables j.entries; text = refl }
 
-pub right_read : (tables : List Table) (j : JournalValue) → IsWritten j → IsReadBack (with_timestamps tables j)
+pub right_read : (tables : List Table) (j : JournalValue) → IsWritten Narrow j → IsReadBack (with_timestamps tables j)
 right_read tables j w =
     let v = with_timestamps tables j in
     reads_back timestamped_journals (IsSoundAlone (Some Two)) timestamped_laws (timestamped_text v) v (right_text tables j w)

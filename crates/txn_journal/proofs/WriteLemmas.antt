@@ -18,7 +18,7 @@ use Rattle.txn_journal.specs.Spelling.{Line, Header, Previous, Makes, Begin, End
 use Rattle.row_images.specs.Images.{values_text}
 use Rattle.txn_journal.specs.Texts.{changes_text, body_text, entries_text, stamped_text, opening_text, text_around}
 use Rattle.txn_journal.specs.declared.lines.Version.{Version}
-use Rattle.txn_journal.specs.declared.lines.Version.TheVariants.{One, Two}
+use Rattle.txn_journal.specs.declared.lines.Version.TheVariants.{One}
 
 pub image_appended : (out word table : List ℕ) (image : List Value) → ((((out ++ word) ++ codes " ") ++ table) ++ codes " ") ++ values_text image ≡ out ++ image_text word table image
 image_appended out word table image = simp append_assoc
@@ -52,10 +52,10 @@ entry_appended out e = body_behind out None e
 numbers_behind : (out : List ℕ) (g : Gtid) (numbers : Option Numbers) → (out ++ line_text (Begin g None)) ++ numbers_text numbers ≡ out ++ line_text (Begin g numbers)
 numbers_behind out g numbers = simp (append_assoc, append-nil)
 
-pub stamped_entry_appended : (out : List ℕ) (stamp place : ℕ) (e : Entry) → ((out ++ line_text (Begin e.gtid None)) ++ numbers_text (numbers_of Two place stamp)) ++ body_text e.txn.changes ≡ out ++ lines_text (entry_lines (numbers_of Two place stamp) e)
-stamped_entry_appended out stamp place e =
-    ap (λ (t : List ℕ). t ++ body_text e.txn.changes) (numbers_behind out e.gtid (numbers_of Two place stamp))
-    ∙ body_behind out (numbers_of Two place stamp) e
+pub stamped_entry_appended : (out : List ℕ) (version : Version) (stamp place : ℕ) (e : Entry) → ((out ++ line_text (Begin e.gtid None)) ++ numbers_text (numbers_of version place stamp)) ++ body_text e.txn.changes ≡ out ++ lines_text (entry_lines (numbers_of version place stamp) e)
+stamped_entry_appended out version stamp place e =
+    ap (λ (t : List ℕ). t ++ body_text e.txn.changes) (numbers_behind out e.gtid (numbers_of version place stamp))
+    ∙ body_behind out (numbers_of version place stamp) e
 
 -- the lines of entries
 entries_unstamped : (place : ℕ) (es : List Entry) → entries_text es ≡ lines_text (entries_lines One place (no_stamps es) es)
@@ -64,12 +64,12 @@ entries_unstamped place (e ∷ es) =
     ap (λ (t : List ℕ). lines_text (entry_lines None e) ++ t) (entries_unstamped (place + 1) es)
     ∙ sym (flat_map-append ended_line (entry_lines None e) (entries_lines One (place + 1) (no_stamps es) es))
 
-entries_stamped : (place : ℕ) (stamps : List ℕ) (es : List Entry) → stamped_text place stamps es ≡ lines_text (entries_lines Two place stamps es)
-entries_stamped place [] es = refl
-entries_stamped place (s ∷ stamps) [] = refl
-entries_stamped place (s ∷ stamps) (e ∷ es) =
-    ap (λ (t : List ℕ). lines_text (entry_lines (numbers_of Two place s) e) ++ t) (entries_stamped (place + 1) stamps es)
-    ∙ sym (flat_map-append ended_line (entry_lines (numbers_of Two place s) e) (entries_lines Two (place + 1) stamps es))
+entries_stamped : (version : Version) (place : ℕ) (stamps : List ℕ) (es : List Entry) → stamped_text version place stamps es ≡ lines_text (entries_lines version place stamps es)
+entries_stamped version place [] es = refl
+entries_stamped version place (s ∷ stamps) [] = refl
+entries_stamped version place (s ∷ stamps) (e ∷ es) =
+    ap (λ (t : List ℕ). lines_text (entry_lines (numbers_of version place s) e) ++ t) (entries_stamped version (place + 1) stamps es)
+    ∙ sym (flat_map-append ended_line (entry_lines (numbers_of version place s) e) (entries_lines version (place + 1) stamps es))
 
 pub previous_appended : (out : List ℕ) (s : Gtids) → ((out ++ codes "previous ") ++ set_text s) ++ codes "\n" ≡ out ++ ended_line (Previous s)
 previous_appended out s = simp append_assoc
@@ -91,8 +91,8 @@ around_lines version s entries =
     sym (append_assoc (lines_text (opening_lines version s)) (lines_text entries) (codes "close\n"))
     ∙ sym (flat_map-append ended_line (opening_lines version s ++ entries) (Close ∷ []) ∙ ap (λ (t : List ℕ). t ++ codes "close\n") (flat_map-append ended_line (opening_lines version s) entries))
 
-pub journal_text : (j : JournalValue) → text_around One j.previous (entries_text j.entries) ≡ spelling j
-journal_text j = ap (text_around One j.previous) (entries_unstamped 1 j.entries) ∙ around_lines One j.previous (entries_lines One 1 (no_stamps j.entries) j.entries)
+pub journal_text : (out : List ℕ) (j : JournalValue) → out ++ text_around One j.previous (entries_text j.entries) ≡ out ++ spelling j
+journal_text out j = ap (λ (t : List ℕ). out ++ t) (ap (text_around One j.previous) (entries_unstamped 1 j.entries) ∙ around_lines One j.previous (entries_lines One 1 (no_stamps j.entries) j.entries))
 
-pub stamped_journal_text : (out stamps : List ℕ) (j : JournalValue) → out ++ text_around Two j.previous (stamped_text 1 stamps j.entries) ≡ out ++ spelling_as Two stamps j
-stamped_journal_text out stamps j = ap (λ (t : List ℕ). out ++ t) (ap (text_around Two j.previous) (entries_stamped 1 stamps j.entries) ∙ around_lines Two j.previous (entries_lines Two 1 stamps j.entries))
+pub stamped_journal_text : (out : List ℕ) (version : Version) (stamps : List ℕ) (j : JournalValue) → out ++ text_around version j.previous (stamped_text version 1 stamps j.entries) ≡ out ++ spelling_as version stamps j
+stamped_journal_text out version stamps j = ap (λ (t : List ℕ). out ++ t) (ap (text_around version j.previous) (entries_stamped version 1 stamps j.entries) ∙ around_lines version j.previous (entries_lines version 1 stamps j.entries))

@@ -20,9 +20,11 @@ use Rattle.journal.specs.Journals.{JournalValue, IsJournal}
 use Rattle.rows.specs.declared.change.Change.{Change}
 use Rattle.rows.specs.declared.change.Change.TheVariants.{Insert, Delete, Update}
 use Rattle.rows.specs.Fits.{table_of}
-use Rattle.rows.specs.Names.{is_short_name}
+use Rattle.rows.specs.declared.limits.Limits.{Limits}
+use Rattle.rows.specs.declared.limits.Limits.TheVariants.{Narrow}
+use Rattle.txn_journal.specs.Versions.{is_named}
 use Rattle.rows.specs.declared.schema.Table.{Table}
-use Rattle.txn_journal.specs.Spelling.{FitsChange, FitsEntry, has_short_names, FitsText, HasValues, IsOfParts, IsWritten, Writes, spelling, spelling_as}
+use Rattle.txn_journal.specs.Spelling.{FitsChange, FitsEntry, has_names, FitsText, HasValues, IsOfParts, IsWritten, Writes, spelling, spelling_as}
 use Rattle.txn_journal.specs.Stamps.{no_stamps, right_stamps}
 use Rattle.txn_journal.specs.Timestamped.{WritesTimestamped, with_timestamps}
 use Rattle.txn_journal.specs.WrittenSets.{IsWrittenSet}
@@ -60,34 +62,34 @@ usable_written s u = record {
 
 -- ---- journals
 
-change_named : (c : Change) → HasValues c → is_short_name (table_of c) ≡ true → FitsChange c
-change_named (Insert table after) h name = (name, h)
-change_named (Delete table before) h name = (name, h)
-change_named (Update table before after) h name = (name, h.0, h.1)
+change_named : (limits : Limits) (c : Change) → HasValues c → is_named limits (table_of c) ≡ true → FitsChange limits c
+change_named limits (Insert table after) h name = (name, h)
+change_named limits (Delete table before) h name = (name, h)
+change_named limits (Update table before after) h name = (name, h.0, h.1)
 
-changes_named : (cs : List Change) → AllByRecursion HasValues cs → list_all (λ c. is_short_name (table_of c)) cs ≡ true → AllByRecursion FitsChange cs
-changes_named [] h names = tt
-changes_named (c ∷ cs) h names =
-    let p = and_parts (is_short_name (table_of c)) (list_all (λ c. is_short_name (table_of c)) cs) names in
-    (change_named c h.0 p.0, changes_named cs h.1 p.1)
+changes_named : (limits : Limits) (cs : List Change) → AllByRecursion HasValues cs → list_all (λ c. is_named limits (table_of c)) cs ≡ true → AllByRecursion (FitsChange limits) cs
+changes_named limits [] h names = tt
+changes_named limits (c ∷ cs) h names =
+    let p = and_parts (is_named limits (table_of c)) (list_all (λ c. is_named limits (table_of c)) cs) names in
+    (change_named limits c h.0 p.0, changes_named limits cs h.1 p.1)
 
-entries_named : (es : List Entry) → AllByRecursion IsOfParts es → list_all has_short_names es ≡ true → AllByRecursion FitsEntry es
-entries_named [] h names = tt
-entries_named (e ∷ es) h names =
-    let p = and_parts (has_short_names e) (list_all has_short_names es) names in
-    (record { source = h.0.source; changes = changes_named e.txn.changes h.0.values p.0 }, entries_named es h.1 p.1)
+entries_named : (limits : Limits) (es : List Entry) → AllByRecursion IsOfParts es → list_all (has_names limits) es ≡ true → AllByRecursion (FitsEntry limits) es
+entries_named limits [] h names = tt
+entries_named limits (e ∷ es) h names =
+    let p = and_parts (has_names limits e) (list_all (has_names limits) es) names in
+    (record { source = h.0.source; changes = changes_named limits e.txn.changes h.0.values p.0 }, entries_named limits es h.1 p.1)
 
-pub few_written : (j : JournalValue) → IsJournal j.previous j.entries → HaveSources j.previous → AllByRecursion IsOfParts j.entries → FitsText j → IsWritten j
-few_written j keeps sources parts fits = record {
+pub few_written : (limits : Limits) (j : JournalValue) → IsJournal j.previous j.entries → HaveSources j.previous → AllByRecursion IsOfParts j.entries → FitsText limits j → IsWritten limits j
+few_written limits j keeps sources parts fits = record {
   keeps = keeps;
   writable = fits.writable;
   few = fits.few;
   previous = usable_written j.previous (λ g e. record { source = sources g e; number = keeps.numbers g e });
-  entries = entries_named j.entries parts fits.named;
+  entries = entries_named limits j.entries parts fits.named;
 }
 
-pub spelled_written : (bytes : List ℕ) (j : JournalValue) → IsWritten j → bytes ≡ spelling j → Writes bytes j
+pub spelled_written : (bytes : List ℕ) (j : JournalValue) → IsWritten Narrow j → bytes ≡ spelling j → Writes bytes j
 spelled_written bytes j w e = (One, no_stamps j.entries, record { written = w; stamps_fit = right_are_stamps One [] j.entries; text = e })
 
-pub stamped_written : (bytes : List ℕ) (tables : List Table) (j : JournalValue) → IsWritten j → bytes ≡ spelling_as Two (right_stamps Two tables j.entries) j → WritesTimestamped bytes (with_timestamps tables j)
+pub stamped_written : (bytes : List ℕ) (tables : List Table) (j : JournalValue) → IsWritten Narrow j → bytes ≡ spelling_as Two (right_stamps Two tables j.entries) j → WritesTimestamped bytes (with_timestamps tables j)
 stamped_written bytes tables j w e = record { written = w; stamps_fit = right_are_stamps Two tables j.entries; text = e }

@@ -3,9 +3,10 @@ use Rattle.std.specs.Prelude.{◌≡◌, ◌⊎◌, ℕ, ◌<◌, ◌≤◌, tru
 use Rattle.gtid_text.specs.Written.{IsSource}
 use Rattle.rows.specs.declared.schema.Table.{Table}
 use Rattle.rows.specs.Apply.{Rows}
-use Rattle.rows.specs.Names.{is_short_name}
+use Rattle.rows.specs.declared.limits.Limits.{Limits}
+use Rattle.rows.specs.Limits.{most_tables, most_columns, most_uniques}
+use Rattle.txn_journal.specs.Versions.{limits_of, is_named}
 use Rattle.rows.specs.Tables.{table_fault}
-use Rattle.rows.specs.declared.limits.Limits.TheVariants.{Narrow}
 use Rattle.journal.specs.Writing.{is_image_writable}
 use Rattle.row_images.specs.Words.{count_of}
 use Rattle.txn_journal.specs.Wordings.{Wording, HasCauseBy}
@@ -47,40 +48,55 @@ own_word (Opens c) = words.Channel
 own_word Done = words.Done
 
 -- its version is due, and its words are those of a source, a set, a name, numbers and values
-abbrev pub FitsOwn : Option Version → OwnLine → Type 0
-FitsOwn due (Heads version) = takes due version ≡ true
-FitsOwn due (Names replica) = IsSource replica
-FitsOwn due (Starts opened) = IsWrittenSet opened
-FitsOwn due (Has shape) = FitsShape shape
-FitsOwn due (Puts r) = FitsRow r
-FitsOwn due (Opens c) = is_short_name c.name ≡ true
-FitsOwn due Done = Unit {0}
+abbrev pub FitsOwn : Option Version → Limits → OwnLine → Type 0
+FitsOwn due limits (Heads version) = takes due version ≡ true
+FitsOwn due limits (Names replica) = IsSource replica
+FitsOwn due limits (Starts opened) = IsWrittenSet opened
+FitsOwn due limits (Has shape) = FitsShape limits shape
+FitsOwn due limits (Puts r) = FitsRow limits r
+FitsOwn due limits (Opens c) = is_named limits c.name ≡ true
+FitsOwn due limits Done = Unit {0}
 
--- a table has 1 to 64 columns
-pub record HasWidth (s : Shape) : Type 0 where
+-- a table has a number of columns that is within the limits
+pub record HasWidth (limits : Limits) (s : Shape) : Type 0 where
   pub width : ℕ
   pub written : count_of s.columns ≡ Some width
   pub some : 1 ≤ width
-  pub few : width ≤ 64
+  pub few : width ≤ most_columns limits
 
--- too many unique keys, no number of columns that a table has, or too many tables before
-abbrev pub PassesTableLimit : List Table → Shape → Type 0
-PassesTableLimit tables shape = (8 < length shape.uniques) ⊎ ((HasWidth shape → ⊥) ⊎ (256 ≤ length tables))
+-- a number of hidden columns that such a table may have
+pub record HasHidden (columns : ℕ) (count : List ℕ) : Type 0 where
+  pub hidden : ℕ
+  pub written : count_of count ≡ Some hidden
+  pub some : 1 ≤ hidden
+  pub few : hidden < columns
+
+-- its columns are hidden, and not as many as it may hide
+pub record HidesWrongly (s : Shape) : Type 0 where
+  pub columns : ℕ
+  pub count : List ℕ
+  pub written : count_of s.columns ≡ Some columns
+  pub hides : s.hidden ≡ Some count
+  pub wrong : HasHidden columns count → ⊥
+
+-- too many unique keys, no number of columns that a table has, a number of hidden columns that it may not have, or too many tables before
+abbrev pub PassesTableLimit : Limits → List Table → Shape → Type 0
+PassesTableLimit limits tables shape = (most_uniques limits < length shape.uniques) ⊎ ((HasWidth limits shape → ⊥) ⊎ (HidesWrongly shape ⊎ (most_tables limits ≤ length tables)))
 
 -- no table of this shape may come after the others
-abbrev pub HasNoPlace : List Table → Shape → Type 0
-HasNoPlace tables shape = (t : Table) → FitsTable t → shape ≡ shape_for t → table_fault tables t ≡ None → ⊥
+abbrev pub HasNoPlace : Limits → List Table → Shape → Type 0
+HasNoPlace limits tables shape = (t : Table) → FitsTable limits t → shape ≡ shape_for t → table_fault tables t ≡ None → ⊥
 
 -- a limit that the line passes: of tables, unique keys and columns, of values of a row and their bytes, and of channels
 abbrev pub PassesOwnLimit : BundleStanding → OwnLine → Type 0
-PassesOwnLimit s (Has shape) = PassesTableLimit s.tables shape
-PassesOwnLimit s (Puts r) = is_image_writable Narrow r.row ≡ false
+PassesOwnLimit s (Has shape) = PassesTableLimit (limits_of s.version) s.tables shape
+PassesOwnLimit s (Puts r) = is_image_writable (limits_of s.version) r.row ≡ false
 PassesOwnLimit s (Opens c) = 256 ≤ length s.bundle.channels
 PassesOwnLimit s _ = ⊥
 
 -- what the lines before do not allow: a table that may not come after the others, a row that may not be put, a name that a channel has
 abbrev pub Clashes : BundleStanding → OwnLine → Type 0
-Clashes s (Has shape) = HasNoPlace s.tables shape
+Clashes s (Has shape) = HasNoPlace (limits_of s.version) s.tables shape
 Clashes s (Puts r) = (rows : Rows) → with_opening (after_tables s).bundle.start r ≡ Ok rows → ⊥
 Clashes s (Opens c) = has_channel s.bundle.channels c.name ≡ true
 Clashes s _ = ⊥
@@ -96,7 +112,7 @@ own_wording s = record {
   word_text = own_word_text;
   line_text = own_text;
   word = own_word;
-  Fits = FitsOwn s.due;
+  Fits = FitsOwn s.due (limits_of s.version);
   PassesLimit = PassesOwnLimit s;
   Clashes = Clashes s;
   IsMisnumbered = λ l. ⊥;

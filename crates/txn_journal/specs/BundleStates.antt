@@ -15,7 +15,8 @@ use Rattle.rows.specs.declared.change.RowFault.{RowFault}
 use Rattle.rows.specs.Apply.{Rows, apply}
 use Rattle.rows.specs.Fits.{misfit}
 use Rattle.rows.specs.Database.{Database, opening}
-use Rattle.rows.specs.declared.limits.Limits.TheVariants.{Narrow}
+use Rattle.rows.specs.declared.limits.Limits.{Limits}
+use Rattle.txn_journal.specs.Versions.{limits_of}
 use Rattle.journal.specs.Journals.{JournalValue}
 use Rattle.journal.specs.Writing.{is_image_writable}
 use Rattle.row_images.specs.Words.{first_word, others}
@@ -33,7 +34,7 @@ use Rattle.txn_journal.specs.declared.bundle_draft.Word.TheVariants as words
 use Rattle.txn_journal.specs.declared.fault.Cause.{Cause}
 use Rattle.txn_journal.specs.declared.fault.Cause.TheVariants as causes
 use Rattle.txn_journal.specs.declared.lines.Version.{Version}
-use Rattle.txn_journal.specs.declared.lines.Version.TheVariants.{One, Two}
+use Rattle.txn_journal.specs.declared.lines.Version.TheVariants.{One}
 
 -- a replica, the set of GTIDs with which it begins, its tables and opening rows, and its channels, each with the journal that it brings
 pub record BundleValue : Type 0 where
@@ -114,10 +115,10 @@ abbrev pub preserve_in : Option (List ℕ) → Result Bool Cause
 preserve_in None = Ok false
 preserve_in (Some word) = if bytes_eq word (codes "preserve") then Ok true else Err causes.Body
 
-unfoldable pub channel_in : Option (List ℕ) → Result BundleChannel Cause
-channel_in None = Err causes.Body
-channel_in (Some text) = do
-  name ← some_or_body (name_of (first_word text))
+unfoldable pub channel_in : Limits → Option (List ℕ) → Result BundleChannel Cause
+channel_in limits None = Err causes.Body
+channel_in limits (Some text) = do
+  name ← some_or_body (name_of limits (first_word text))
   preserve ← preserve_in (others text)
   Ok (record { name = name; preserve = preserve })
 
@@ -152,10 +153,10 @@ version_line s rest = do
   version ← version_in s.due rest
   Ok (record s { part = parts.Replica; version = version })
 
--- version 2 has a line of the opening set
+-- version 1 has no line of the opening set
 abbrev pub after_replica : Version → Part
 after_replica One = parts.Tables
-after_replica Two = parts.Opening
+after_replica _ = parts.Opening
 
 unfoldable pub replica_line : BundleStanding → Option (List ℕ) → Result BundleStanding Cause
 replica_line s rest = do
@@ -170,14 +171,18 @@ opening_line s rest = do
 unfoldable pub add_table_line : BundleStanding → Option (List ℕ) → Result BundleStanding Cause
 add_table_line s None = Err causes.Body
 add_table_line s (Some text) = do
-  tables ← added_table s.tables text
+  tables ← added_table (limits_of s.version) s.tables text
   Ok (record s { tables = tables })
+
+-- one more opening row, if it is within the limits
+abbrev pub put_within : BundleStanding → TableRow → Result BundleStanding Cause
+put_within s r = if is_image_writable (limits_of s.version) r.row then put_row (after_tables s) r else Err causes.Limit
 
 unfoldable pub row_line : BundleStanding → Option (List ℕ) → Result BundleStanding Cause
 row_line s rest = do
-  table ← table_in rest
+  table ← table_in (limits_of s.version) rest
   row ← image_in table.1
-  if is_image_writable Narrow row then put_row (after_tables s) (record { table = table.0; row = row }) else Err causes.Limit
+  put_within s (record { table = table.0; row = row })
 
 unfoldable pub join_channel : BundleStanding → BundleChannel → Result BundleStanding Cause
 join_channel s channel =
@@ -187,7 +192,7 @@ join_channel s channel =
 
 unfoldable pub channel_line : BundleStanding → Option (List ℕ) → Result BundleStanding Cause
 channel_line s rest = do
-  channel ← channel_in rest
+  channel ← channel_in (limits_of s.version) rest
   join_channel s channel
 
 unfoldable pub done_line : BundleStanding → Option (List ℕ) → Result BundleStanding Cause

@@ -1,5 +1,5 @@
 -- The text of a bundle: its lines, each ended by a line feed. Only its version and the order of its `row` lines are free.
-use Rattle.std.specs.Prelude.{◌≡◌, ℕ, ◌+◌, ◌≤◌, ◌<◌, Bool, true, false, List, [], ◌∷◌, ◌++◌, length, map, Option, Some, None, Result, Ok, codes}
+use Rattle.std.specs.Prelude.{◌≡◌, ℕ, ◌+◌, ◌≤◌, ◌<◌, Bool, true, false, List, [], ◌∷◌, ◌++◌, length, map, Option, Some, None, Result, Ok, codes, if◌then◌else◌}
 use Rattle.std.specs.List.{list_all, flat_map, AllByRecursion}
 use Rattle.std.specs.FinMap as map_of
 use Rattle.std.specs.FinSet as set
@@ -10,9 +10,9 @@ use Rattle.rows.specs.declared.schema.Table.{Table}
 use Rattle.rows.specs.Apply.{Rows}
 use Rattle.rows.specs.Database.{Database}
 use Rattle.rows.specs.Listing.{rows_listed}
-use Rattle.rows.specs.Names.{is_short_name}
+use Rattle.rows.specs.declared.limits.Limits.{Limits}
+use Rattle.txn_journal.specs.Versions.{limits_of, is_named, is_numbered, newest}
 use Rattle.rows.specs.Tables.{table_fault}
-use Rattle.rows.specs.declared.limits.Limits.TheVariants.{Narrow}
 use Rattle.journal.specs.declared.Entry.{Entry}
 use Rattle.journal.specs.Journals.{JournalValue}
 use Rattle.journal.specs.Writing.{is_image_writable}
@@ -88,10 +88,9 @@ abbrev pub channels_lines : Version → List BundleChannel → List (List ℕ) �
 channels_lines version (c ∷ cs) (stamps ∷ all) (j ∷ js) = channel_lines version c stamps j ++ channels_lines version cs all js
 channels_lines version _ _ _ = []
 
--- version 2 has a line of the opening set
+-- version 1 has no line of the opening set
 abbrev pub opening_set_lines : Version → Gtids → List BundleLine
-opening_set_lines One opened = []
-opening_set_lines Two opened = Own (Starts opened) ∷ []
+opening_set_lines version opened = if is_numbered version then Own (Starts opened) ∷ [] else []
 
 -- the replica, the set with which it begins, and its tables
 abbrev pub tables_lines : Version → ℕ → Gtids → List Table → List BundleLine
@@ -115,15 +114,15 @@ bundle_spelling version rows b = bundle_text (bundle_lines version rows (all_sta
 -- ---- what can be written
 
 -- a table's name, and one or more values
-pub record FitsRow (r : TableRow) : Type 0 where
-  pub name : is_short_name r.table ≡ true
+pub record FitsRow (limits : Limits) (r : TableRow) : Type 0 where
+  pub name : is_named limits r.table ≡ true
   pub values : AreValues r.row
   pub some : 0 < length r.row
 
 -- each table may come after those before it
-abbrev pub AreAdded : List Table → List Table → Type 0
-AreAdded before [] = Unit {0}
-AreAdded before (t ∷ ts) = FitsTable t × (table_fault before t ≡ None) × AreAdded (before ++ t ∷ []) ts
+abbrev pub AreAdded : Limits → List Table → List Table → Type 0
+AreAdded limits before [] = Unit {0}
+AreAdded limits before (t ∷ ts) = FitsTable limits t × (table_fault before t ≡ None) × AreAdded limits (before ++ t ∷ []) ts
 
 -- the opening rows that come of these, put in turn
 abbrev pub put_all : Database → List TableRow → Result Rows Cause
@@ -131,48 +130,52 @@ put_all d [] = Ok d.rows
 put_all d (r ∷ rs) = with_opening d r >>= λ rows. put_all (record d { rows = rows }) rs
 
 -- each row can be written, and their schema takes them all in turn
-pub record AreOpening (schema : List Table) (rs : List TableRow) (rows : Rows) : Type 0 where
-  pub fit : AllByRecursion FitsRow rs
-  pub writable : list_all (λ r. is_image_writable Narrow r.row) rs ≡ true
+pub record AreOpening (limits : Limits) (schema : List Table) (rs : List TableRow) (rows : Rows) : Type 0 where
+  pub fit : AllByRecursion (FitsRow limits) rs
+  pub writable : list_all (λ r. is_image_writable limits r.row) rs ≡ true
   pub put : put_all (record { schema = schema; rows = map_of.empty }) rs ≡ Ok rows
 
 -- each channel has a name that none before it has
-abbrev pub AreNamed : List BundleChannel → List BundleChannel → Type 0
-AreNamed before [] = Unit {0}
-AreNamed before (c ∷ cs) = (is_short_name c.name ≡ true) × (has_channel before c.name ≡ false) × AreNamed (before ++ c ∷ []) cs
+abbrev pub AreNamed : Limits → List BundleChannel → List BundleChannel → Type 0
+AreNamed limits before [] = Unit {0}
+AreNamed limits before (c ∷ cs) = (is_named limits c.name ≡ true) × (has_channel before c.name ≡ false) × AreNamed limits (before ++ c ∷ []) cs
 
 -- the tables take each change of an entry
 abbrev pub entry_fits : List Table → Entry → Bool
 entry_fits tables e = list_all (fits (Some tables)) e.txn.changes
 
-pub record IsWrittenIn (tables : List Table) (j : JournalValue) : Type 0 where
-  pub written : IsWritten j
+pub record IsWrittenIn (limits : Limits) (tables : List Table) (j : JournalValue) : Type 0 where
+  pub written : IsWritten limits j
   pub fitting : list_all (entry_fits tables) j.entries ≡ true
 
 -- a journal for each channel, with what its tables take
-abbrev pub AreBrought : List Table → List BundleChannel → List JournalValue → Type 0
-AreBrought tables [] [] = Unit {0}
-AreBrought tables (c ∷ cs) (j ∷ js) = IsWrittenIn tables j × AreBrought tables cs js
-AreBrought tables _ _ = ⊥
+abbrev pub AreBrought : Limits → List Table → List BundleChannel → List JournalValue → Type 0
+AreBrought limits tables [] [] = Unit {0}
+AreBrought limits tables (c ∷ cs) (j ∷ js) = IsWrittenIn limits tables j × AreBrought limits tables cs js
+AreBrought limits tables _ _ = ⊥
 
 -- version 1 has the empty opening set
 abbrev pub IsOpeningSet : Version → Gtids → Type 0
 IsOpeningSet One opened = opened ≡ set.empty
-IsOpeningSet Two opened = IsWrittenSet opened
+IsOpeningSet _ opened = IsWrittenSet opened
 
 -- what a bundle keeps, if its rows come in this order
 pub record IsWrittenBundle (version : Version) (rows : List TableRow) (b : BundleValue) : Type 0 where
   pub replica : IsSource b.replica
   pub opened : IsOpeningSet version b.opened
-  pub tables : AreAdded [] b.start.schema
-  pub opening : AreOpening b.start.schema rows b.start.rows
-  pub named : AreNamed [] b.channels
+  pub tables : AreAdded (limits_of version) [] b.start.schema
+  pub opening : AreOpening (limits_of version) b.start.schema rows b.start.rows
+  pub named : AreNamed (limits_of version) [] b.channels
   pub few : length b.channels ≤ 256
-  pub brought : AreBrought b.start.schema b.channels b.journals
+  pub brought : AreBrought (limits_of version) b.start.schema b.channels b.journals
 
--- what every bundle keeps: it has a text by version 2, with its rows in listed order
+-- this version can write it, with its rows in listed order
+abbrev pub IsWritableBy : Version → BundleValue → Type 0
+IsWritableBy version b = IsWrittenBundle version (rows_listed b.start.rows) b
+
+-- what every bundle keeps: version 2 or 3 can write it
 abbrev pub IsBundle : BundleValue → Type 0
-IsBundle b = IsWrittenBundle Two (rows_listed b.start.rows) b
+IsBundle b = (limits : Limits) × IsWritableBy (newest limits) b
 
 -- the bytes are a text of this bundle, by this version
 pub record WritesBundleAs (version : Version) (bytes : List ℕ) (b : BundleValue) : Type 0 where
@@ -184,13 +187,17 @@ pub record WritesBundleAs (version : Version) (bytes : List ℕ) (b : BundleValu
 abbrev pub WritesBundleBy : Option Version → List ℕ → BundleValue → Type 0
 WritesBundleBy due bytes b = (version : Version) × (takes due version ≡ true) × WritesBundleAs version bytes b
 
+-- by this version, if it can write the bundle
+abbrev pub WritesWhereWritable : Version → List ℕ → BundleValue → Type 0
+WritesWhereWritable version bytes b = IsWritableBy version b → WritesBundleBy (Some version) bytes b
+
 -- by any version
 abbrev pub WritesBundle : List ℕ → BundleValue → Type 0
 WritesBundle bytes b = WritesBundleBy None bytes b
 
--- its text by version 2, with its rows in listed order
-abbrev pub upgrade_of : BundleValue → List ℕ
-upgrade_of b = bundle_spelling Two (rows_listed b.start.rows) b
+-- its text by this version, with its rows in listed order
+abbrev pub spelling_by : Version → BundleValue → List ℕ
+spelling_by version b = bundle_spelling version (rows_listed b.start.rows) b
 
 -- ---- bundles whose last entry has not been tested as a whole
 
@@ -224,4 +231,4 @@ AlmostWritesBundle due bytes b = (version : Version) × (takes due version ≡ t
 
 -- A bundle of version 1 has a text by version 2.
 abbrev pub UpgradeHasText : Type 0
-UpgradeHasText = (bytes : List ℕ) (b : BundleValue) → WritesBundleBy (Some One) bytes b → WritesBundleBy (Some Two) (upgrade_of b) b
+UpgradeHasText = (bytes : List ℕ) (b : BundleValue) → WritesBundleBy (Some One) bytes b → WritesBundleBy (Some Two) (spelling_by Two b) b

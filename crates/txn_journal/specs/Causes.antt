@@ -1,10 +1,12 @@
 -- The faults of a line, by its words and not by the way in which it is read.
-use Rattle.std.specs.Prelude.{◌≡◌, ◌⊎◌, ℕ, ◌+◌, ◌<◌, ◌≤◌, true, false, List, length, Option, Some, None, codes}
+use Rattle.std.specs.Prelude.{◌≡◌, ◌⊎◌, ℕ, ◌+◌, ◌<◌, ◌≤◌, true, false, List, length, Option, Some, None, is_some, codes}
 use Rattle.std.specs.FinSet as set
 use Rattle.gtid_text.specs.Written.{IsUsable}
 use Rattle.rows.specs.declared.change.Change.TheVariants.{Insert, Delete, Update}
 use Rattle.rows.specs.declared.schema.Table.{Table}
-use Rattle.rows.specs.declared.limits.Limits.TheVariants.{Narrow}
+use Rattle.rows.specs.declared.limits.Limits.{Limits}
+use Rattle.rows.specs.Limits.{most_changes}
+use Rattle.txn_journal.specs.Versions.{limits_of, is_numbered}
 use Rattle.journal.specs.Writing.{is_change_writable}
 use Rattle.gtid_text.specs.declared.Gtid.{Gtid}
 use Rattle.txn_journal.specs.Due.{is_due}
@@ -18,7 +20,6 @@ use Rattle.txn_journal.specs.declared.fault.Cause.{Cause}
 use Rattle.txn_journal.specs.declared.lines.Keyword.{Keyword}
 use Rattle.txn_journal.specs.declared.lines.Keyword.TheVariants as keywords
 use Rattle.txn_journal.specs.declared.lines.Version.{Version}
-use Rattle.txn_journal.specs.declared.lines.Version.TheVariants.{One, Two}
 
 abbrev pub keyword_text : Keyword → List ℕ
 keyword_text keywords.Journal = codes "journal"
@@ -47,13 +48,13 @@ AreCounts None = Unit {0}
 AreCounts (Some numbers) = (is_count numbers.last_committed ≡ true) × (is_count numbers.sequence_number ≡ true)
 
 -- its words are those of a set, a GTID, numbers, a name and values
-abbrev pub FitsLine : Line → Type 0
-FitsLine (Header version) = Unit {0}
-FitsLine (Previous s) = IsWrittenSet s
-FitsLine (Begin g numbers) = IsUsable g × AreCounts numbers
-FitsLine (Makes change) = FitsChange change
-FitsLine End = Unit {0}
-FitsLine Close = Unit {0}
+abbrev pub FitsLine : Limits → Line → Type 0
+FitsLine limits (Header version) = Unit {0}
+FitsLine limits (Previous s) = IsWrittenSet s
+FitsLine limits (Begin g numbers) = IsUsable g × AreCounts numbers
+FitsLine limits (Makes change) = FitsChange limits change
+FitsLine limits End = Unit {0}
+FitsLine limits Close = Unit {0}
 
 -- each image of a change has a value
 abbrev pub HasImages : Line → Type 0
@@ -62,11 +63,9 @@ HasImages (Makes (Delete table before)) = 0 < length before
 HasImages (Makes (Update table before after)) = (0 < length before) × (0 < length after)
 HasImages _ = Unit {0}
 
--- version 2 writes an entry's numbers, and version 1 none
+-- version 1 writes no numbers, and each other version an entry's
 abbrev pub HasNumbers : Version → Option Numbers → Type 0
-HasNumbers One None = Unit {0}
-HasNumbers Two (Some numbers) = Unit {0}
-HasNumbers _ _ = ⊥
+HasNumbers version numbers = is_some numbers ≡ is_numbered version
 
 -- it is of a version that is due, or of the version of the lines before
 abbrev pub IsOfVersion : Option Version → Version → Line → Type 0
@@ -76,14 +75,14 @@ IsOfVersion due version _ = Unit {0}
 
 -- its words are those of such a line, and may be there
 pub record FitsAt (due : Option Version) (version : Version) (l : Line) : Type 0 where
-  pub words : FitsLine l
+  pub words : FitsLine (limits_of version) l
   pub images : HasImages l
   pub of_version : IsOfVersion due version l
 
 -- a limit that the line passes: of entries, of changes, of values of an image and of bytes of a value
 abbrev pub PassesLimit : Standing → Line → Type 0
 PassesLimit s (Begin g numbers) = 4294967294 ≤ s.count
-PassesLimit s (Makes change) = (65536 ≤ length s.changes) ⊎ (is_change_writable Narrow change ≡ false)
+PassesLimit s (Makes change) = (most_changes (limits_of s.version) ≤ length s.changes) ⊎ (is_change_writable (limits_of s.version) change ≡ false)
 PassesLimit s _ = ⊥
 
 -- a change that no table takes, if there is a schema

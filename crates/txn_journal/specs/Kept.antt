@@ -5,7 +5,8 @@ use Rattle.std.specs.FinSet as set
 use Rattle.gtid_text.specs.declared.Gtid.{Gtid}
 use Rattle.gtid_set.specs.Sets.{Gtids}
 use Rattle.rows.specs.declared.change.Change.{Change}
-use Rattle.rows.specs.declared.limits.Limits.TheVariants.{Narrow}
+use Rattle.rows.specs.declared.limits.Limits.{Limits}
+use Rattle.rows.specs.Limits.{most_changes}
 use Rattle.journal.specs.Journals.{JournalValue, whole}
 use Rattle.journal.specs.Writing.{is_number, is_change_writable}
 use Rattle.txn_journal.specs.declared.lines.LinePlace.{LinePlace}
@@ -24,6 +25,6 @@ pub record HasRoomFor (seen : Gtids) (count : ℕ) (gtid : Gtid) : Type 0 where
 abbrev pub IsOpenNew : LinePlace → Gtids → ℕ → Gtid → Type 0
 IsOpenNew place seen count gtid = place ≡ Within → HasRoomFor seen count gtid
 
--- the changes of an entry that is open can be written
-abbrev pub AreWritable : List Change → Type 0
-AreWritable changes = (nat_le (length changes) 65536 && list_all (is_change_writable Narrow) changes) ≡ true
+-- the changes of an entry that is open can be written, within these limits
+abbrev pub AreWritable : Limits → List Change → Type 0
+AreWritable limits changes = (nat_le (length changes) (most_changes limits) && list_all (is_change_writable limits) changes) ≡ true

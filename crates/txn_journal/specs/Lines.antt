@@ -8,6 +8,7 @@ use Rattle.row_images.specs.declared.value.Value.{Value}
 use Rattle.row_images.specs.Words.{is_count, count_of, first_word, others}
 use Rattle.row_images.specs.Values.{value_of}
 use Rattle.journal_words.specs.Gtids.{gtid_of_word, set_of_word}
+use Rattle.rows.specs.declared.limits.Limits.{Limits}
 use Rattle.txn_journal.specs.Words.{name_of}
 use Rattle.row_images.specs.Images.{words_of}
 use Rattle.txn_journal.specs.declared.fault.Cause.{Cause}
@@ -15,7 +16,8 @@ use Rattle.txn_journal.specs.declared.fault.Cause.TheVariants as causes
 use Rattle.txn_journal.specs.declared.lines.Keyword.{Keyword}
 use Rattle.txn_journal.specs.declared.lines.Keyword.TheVariants as keywords
 use Rattle.txn_journal.specs.declared.lines.Version.{Version}
-use Rattle.txn_journal.specs.declared.lines.Version.TheVariants.{One, Two}
+use Rattle.txn_journal.specs.declared.lines.Version.TheVariants.{One, Two, Three}
+use Rattle.txn_journal.specs.Versions.{is_numbered}
 
 -- ---- steps that may fail
 
@@ -54,12 +56,14 @@ abbrev pub takes : Option Version → Version → Bool
 takes None version = true
 takes (Some One) One = true
 takes (Some Two) Two = true
+takes (Some Three) Three = true
 takes (Some _) _ = false
 
 abbrev pub version_named : List ℕ → Option Version
 version_named word =
     if bytes_eq word (codes "1") then Some One
     else if bytes_eq word (codes "2") then Some Two
+    else if bytes_eq word (codes "3") then Some Three
     else None
 
 abbrev pub known_version : Option Version → Option Version → Result Version Cause
@@ -93,23 +97,23 @@ numbers_in (Some text) = do
   sequence_number ← some_or_body (others text)
   if is_count (first_word text) && is_count sequence_number then Ok (record { last_committed = first_word text; sequence_number = sequence_number }) else Err causes.Body
 
--- its GTID, and in version 2 its numbers
+-- its GTID, and its numbers but in version 1
 pub record Beginning : Type 0 where
   pub gtid : Gtid
   pub numbers : Option Numbers
 
-abbrev pub beginning_text : Version → List ℕ → Result Beginning Cause
-beginning_text One word = do
+abbrev pub beginning_text : Bool → List ℕ → Result Beginning Cause
+beginning_text false word = do
   gtid ← some_or_body (gtid_of_word word)
   Ok (record { gtid = gtid; numbers = None })
-beginning_text Two text = do
+beginning_text true text = do
   gtid ← some_or_body (gtid_of_word (first_word text))
   numbers ← numbers_in (others text)
   Ok (record { gtid = gtid; numbers = Some numbers })
 
 abbrev pub beginning_in : Version → Option (List ℕ) → Result Beginning Cause
 beginning_in version None = Err causes.Body
-beginning_in version (Some text) = beginning_text version text
+beginning_in version (Some text) = beginning_text (is_numbered version) text
 
 abbrev pub is_place : ℕ → Option ℕ → Bool
 is_place place None = false
@@ -183,9 +187,9 @@ pub record IsAroundBar (text before after : List ℕ) : Type 0 where
   pub first : list_all (λ b. not (b == 124)) before ≡ true
 
 -- a table's name, and the text after it
-abbrev pub table_in : Option (List ℕ) → Result (List ℕ × List ℕ) Cause
-table_in None = Err causes.Body
-table_in (Some text) = do
+abbrev pub table_in : Limits → Option (List ℕ) → Result (List ℕ × List ℕ) Cause
+table_in limits None = Err causes.Body
+table_in limits (Some text) = do
   rest ← some_or_body (others text)
-  name ← some_or_body (name_of (first_word text))
+  name ← some_or_body (name_of limits (first_word text))
   Ok (name, rest)

@@ -11,7 +11,8 @@ use Rattle.rows.specs.declared.change.Change.TheVariants.{Insert, Delete, Update
 use Rattle.rows.specs.declared.schema.Table.{Table}
 use Rattle.rows.specs.Keys.{find_table}
 use Rattle.rows.specs.Fits.{has_primary_null, table_of}
-use Rattle.rows.specs.declared.limits.Limits.TheVariants.{Narrow}
+use Rattle.rows.specs.Limits.{most_changes}
+use Rattle.txn_journal.specs.Versions.{limits_of}
 use Rattle.journal.specs.declared.Entry.{Entry}
 use Rattle.journal.specs.Journals.{JournalValue}
 use Rattle.journal.specs.Writing.{is_number, is_change_writable}
@@ -105,7 +106,7 @@ fits (Some tables) change = takes_change (find_table (table_of change) tables) c
 
 unfoldable pub add : Option (List Table) → Standing → Change → Result Standing Cause
 add schema s change =
-    if nat_le 65536 (length s.changes) || not (is_change_writable Narrow change) then Err causes.Limit
+    if nat_le (most_changes (limits_of s.version)) (length s.changes) || not (is_change_writable (limits_of s.version) change) then Err causes.Limit
     else if not (fits schema change) then Err causes.Schema
     else Ok (record s { changes = s.changes ++ change ∷ [] })
 
@@ -140,7 +141,7 @@ close_entry s = join_entry s (open_entry s)
 unfoldable pub header_line : Standing → Option (List ℕ) → Result Standing Cause
 header_line s rest = do
   version ← version_in s.due rest
-  Ok (record s { place = places.Previous; version = version })
+  Ok (record s { place = places.Previous; version = version; changes = [] })
 
 unfoldable pub previous_line : Standing → Option (List ℕ) → Result Standing Cause
 previous_line s rest = do
@@ -167,15 +168,15 @@ step schema s keywords.Journal rest = header_line s rest
 step schema s keywords.Previous rest = previous_line s rest
 step schema s keywords.Txn rest = txn_line s rest
 step schema s keywords.Ins rest = do
-  table ← table_in rest
+  table ← table_in (limits_of s.version) rest
   after ← image_in table.1
   add schema s (Insert table.0 after)
 step schema s keywords.Del rest = do
-  table ← table_in rest
+  table ← table_in (limits_of s.version) rest
   before ← image_in table.1
   add schema s (Delete table.0 before)
 step schema s keywords.Upd rest = do
-  table ← table_in rest
+  table ← table_in (limits_of s.version) rest
   images ← images_in table.1
   add schema s (Update table.0 images.0 images.1)
 step schema s keywords.End rest = end_line s rest

@@ -1,8 +1,12 @@
 -- Two texts of one bundle.
 use Rattle.std.specs.Prelude.{◌≡◌, ◌⊎◌, ℕ, List, [], ◌∷◌}
+use Rattle.rows.specs.Apply.{Rows}
+use Rattle.rows.specs.Listing.{rows_listed}
 use Rattle.rows.specs.declared.change.TableRow.{TableRow}
+use Rattle.rows.specs.declared.limits.Limits.{Limits}
+use Rattle.rows.specs.declared.schema.Table.{Table}
 use Rattle.txn_journal.specs.BundleStates.{BundleValue}
-use Rattle.txn_journal.specs.BundleText.{bundle_spelling, WritesBundleAs}
+use Rattle.txn_journal.specs.BundleText.{bundle_spelling, AreOpening, WritesBundleAs}
 use Rattle.txn_journal.specs.declared.lines.Version.{Version}
 
 -- the row is one of these
@@ -29,6 +33,10 @@ pub record DifferInOrder (version : Version) (b : BundleValue) (x y : List ℕ) 
   pub one : x ≡ bundle_spelling version old b
   pub other : y ≡ bundle_spelling version new b
   pub reordered : AreReordered old new
+
+-- Opening rows give the same rows, put in listed order.
+abbrev pub OpensInListedOrder : Type 0
+OpensInListedOrder = (limits : Limits) (tables : List Table) (rs : List TableRow) (rows : Rows) → AreOpening limits tables rs rows → AreOpening limits tables (rows_listed rows) rows
 
 -- Two texts of a bundle by one version differ in the order of its `row` lines at most.
 abbrev pub TextsDifferInOrder : Type 0

@@ -1,5 +1,5 @@
 -- The one text of a journal: its lines, each ended by a line feed.
-use Rattle.std.specs.Prelude.{◌≡◌, ℕ, ◌+◌, ◌<◌, ◌≤◌, Bool, true, List, [], ◌∷◌, ◌++◌, length, map, Option, Some, None, codes, decimal}
+use Rattle.std.specs.Prelude.{◌≡◌, ℕ, ◌+◌, ◌<◌, ◌≤◌, Bool, true, List, [], ◌∷◌, ◌++◌, length, map, Option, Some, None, codes, decimal, if◌then◌else◌}
 use Rattle.std.specs.List.{list_all, flat_map, AllByRecursion}
 use Rattle.gtid_text.specs.declared.Gtid.{Gtid}
 use Rattle.gtid_text.specs.Canonical.{gtid_text}
@@ -8,9 +8,9 @@ use Rattle.gtid_set.specs.Sets.{Gtids}
 use Rattle.row_images.specs.declared.value.Value.{Value}
 use Rattle.rows.specs.declared.change.Change.{Change}
 use Rattle.rows.specs.declared.change.Change.TheVariants.{Insert, Delete, Update}
-use Rattle.rows.specs.declared.limits.Limits.TheVariants.{Narrow}
+use Rattle.rows.specs.declared.limits.Limits.{Limits}
 use Rattle.rows.specs.Fits.{table_of}
-use Rattle.rows.specs.Names.{is_short_name}
+use Rattle.txn_journal.specs.Versions.{limits_of, is_named, is_numbered}
 use Rattle.journal.specs.declared.Entry.{Entry}
 use Rattle.journal.specs.Journals.{JournalValue, IsJournal}
 use Rattle.journal.specs.Writing.{is_writable}
@@ -19,7 +19,7 @@ use Rattle.row_images.specs.Images.{values_text, AreValues}
 use Rattle.txn_journal.specs.Lines.{Numbers}
 use Rattle.txn_journal.specs.Stamps.{no_stamps}
 use Rattle.txn_journal.specs.declared.lines.Version.{Version}
-use Rattle.txn_journal.specs.declared.lines.Version.TheVariants.{One, Two}
+use Rattle.txn_journal.specs.declared.lines.Version.TheVariants.{One, Two, Three}
 
 -- ---- lines
 
@@ -35,6 +35,7 @@ pub data Line : Type 0 where
 abbrev pub version_text : Version → List ℕ
 version_text One = codes "1"
 version_text Two = codes "2"
+version_text Three = codes "3"
 
 -- a word, a table and an image
 abbrev pub image_text : List ℕ → List ℕ → List Value → List ℕ
@@ -70,8 +71,7 @@ lines_text ls = flat_map ended_line ls
 
 -- the numbers of the entry at a place with this last_committed
 abbrev pub numbers_of : Version → ℕ → ℕ → Option Numbers
-numbers_of One place stamp = None
-numbers_of Two place stamp = Some (record { last_committed = decimal stamp; sequence_number = decimal place })
+numbers_of version place stamp = if is_numbered version then Some (record { last_committed = decimal stamp; sequence_number = decimal place }) else None
 
 abbrev pub entry_lines : Option Numbers → Entry → List Line
 entry_lines numbers e = Begin e.gtid numbers ∷ map Makes e.txn.changes ++ End ∷ []
@@ -101,32 +101,32 @@ spelling j = spelling_as One (no_stamps j.entries) j
 
 -- ---- what can be written
 
--- a table's name of versions 1 and 2, and values of 64 bits and bytes
-abbrev pub FitsChange : Change → Type 0
-FitsChange (Insert table after) = (is_short_name table ≡ true) × AreValues after
-FitsChange (Delete table before) = (is_short_name table ≡ true) × AreValues before
-FitsChange (Update table before after) = (is_short_name table ≡ true) × AreValues before × AreValues after
+-- a table's name, and values of 64 bits and bytes
+abbrev pub FitsChange : Limits → Change → Type 0
+FitsChange limits (Insert table after) = (is_named limits table ≡ true) × AreValues after
+FitsChange limits (Delete table before) = (is_named limits table ≡ true) × AreValues before
+FitsChange limits (Update table before after) = (is_named limits table ≡ true) × AreValues before × AreValues after
 
-pub record FitsEntry (e : Entry) : Type 0 where
+pub record FitsEntry (limits : Limits) (e : Entry) : Type 0 where
   pub source : IsSource e.gtid.source
-  pub changes : AllByRecursion FitsChange e.txn.changes
+  pub changes : AllByRecursion (FitsChange limits) e.txn.changes
 
 -- what a journal keeps, with no more entries than it may have, each within the limits and of names, numbers and bytes
-pub record IsWritten (j : JournalValue) : Type 0 where
+pub record IsWritten (limits : Limits) (j : JournalValue) : Type 0 where
   pub keeps : IsJournal j.previous j.entries
-  pub writable : list_all (is_writable Narrow) j.entries ≡ true
+  pub writable : list_all (is_writable limits) j.entries ≡ true
   pub few : length j.entries ≤ 4294967294
   pub previous : IsWrittenSet j.previous
-  pub entries : AllByRecursion FitsEntry j.entries
+  pub entries : AllByRecursion (FitsEntry limits) j.entries
 
-abbrev pub has_short_names : Entry → Bool
-has_short_names e = list_all (λ c. is_short_name (table_of c)) e.txn.changes
+abbrev pub has_names : Limits → Entry → Bool
+has_names limits e = list_all (λ c. is_named limits (table_of c)) e.txn.changes
 
--- what a journal's type leaves open and its text by versions 1 and 2 asks for: how many entries there are, their limits and their names
-pub record FitsText (j : JournalValue) : Type 0 where
+-- what a journal's type leaves open and its text with these limits asks for: how many entries there are, their limits and their names
+pub record FitsText (limits : Limits) (j : JournalValue) : Type 0 where
   pub few : length j.entries ≤ 4294967294
-  pub writable : list_all (is_writable Narrow) j.entries ≡ true
-  pub named : list_all has_short_names j.entries ≡ true
+  pub writable : list_all (is_writable limits) j.entries ≡ true
+  pub named : list_all (has_names limits) j.entries ≡ true
 
 -- what the types of a change's values keep
 abbrev pub HasValues : Change → Type 0
@@ -139,10 +139,10 @@ pub record IsOfParts (e : Entry) : Type 0 where
   pub source : IsSource e.gtid.source
   pub values : AllByRecursion HasValues e.txn.changes
 
--- what denotes the last_committed of the entry at a place, which in version 2 is below it
+-- what denotes the last_committed of the entry at a place, which is below it where it is written
 abbrev pub IsStamp : Version → ℕ → ℕ → Type 0
 IsStamp One place stamp = stamp ≡ 0
-IsStamp Two place stamp = stamp < place
+IsStamp _ place stamp = stamp < place
 
 -- one for each entry from a place on
 abbrev pub AreStamps : Version → ℕ → List ℕ → List Entry → Type 0
@@ -152,7 +152,7 @@ AreStamps version place _ _ = ⊥
 
 -- the bytes are the text of this journal, by this version and with these numbers
 pub record WritesAs (version : Version) (stamps : List ℕ) (bytes : List ℕ) (j : JournalValue) : Type 0 where
-  pub written : IsWritten j
+  pub written : IsWritten (limits_of version) j
   pub stamps_fit : AreStamps version 1 stamps j.entries
   pub text : bytes ≡ spelling_as version stamps j
 

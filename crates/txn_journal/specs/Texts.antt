@@ -1,5 +1,5 @@
 -- The text of journals and bundles, one part after another.
-use Rattle.std.specs.Prelude.{ℕ, ◌+◌, List, [], ◌∷◌, ◌++◌, None, codes, decimal}
+use Rattle.std.specs.Prelude.{ℕ, zero, suc, ◌+◌, List, [], ◌∷◌, ◌++◌, None, codes, decimal}
 use Rattle.gtid_set.specs.Sets.{Gtids}
 use Rattle.rows.specs.declared.change.Change.{Change}
 use Rattle.rows.specs.declared.change.TableRow.{TableRow}
@@ -10,10 +10,9 @@ use Rattle.txn_journal.specs.Splits.{columns_text}
 use Rattle.txn_journal.specs.Shapes.{shape_for}
 use Rattle.txn_journal.specs.Stamps.{right_stamps}
 use Rattle.txn_journal.specs.Spelling.{Makes, ended_line, lines_text, entry_lines, numbers_of, opening_lines}
-use Rattle.txn_journal.specs.BundleText.{Heads, Names, Starts, Has, Puts, Own, ended_bundle_line, bundle_text, channel_lines}
+use Rattle.txn_journal.specs.BundleText.{Heads, Names, Has, Puts, Own, ended_bundle_line, bundle_text, channel_lines, opening_set_lines}
 use Rattle.txn_journal.specs.declared.bundle.BundleChannel.{BundleChannel}
 use Rattle.txn_journal.specs.declared.lines.Version.{Version}
-use Rattle.txn_journal.specs.declared.lines.Version.TheVariants.{Two}
 
 -- ---- journals
 
@@ -31,9 +30,9 @@ entries_text [] = []
 entries_text (e ∷ es) = lines_text (entry_lines None e) ++ entries_text es
 
 -- entries from a place on, each with its last_committed
-abbrev pub stamped_text : ℕ → List ℕ → List Entry → List ℕ
-stamped_text place (stamp ∷ stamps) (e ∷ es) = lines_text (entry_lines (numbers_of Two place stamp) e) ++ stamped_text (place + 1) stamps es
-stamped_text place _ _ = []
+abbrev pub stamped_text : Version → ℕ → List ℕ → List Entry → List ℕ
+stamped_text version place (stamp ∷ stamps) (e ∷ es) = lines_text (entry_lines (numbers_of version place stamp) e) ++ stamped_text version (place + 1) stamps es
+stamped_text version place _ _ = []
 
 -- the first two lines of a journal
 unfoldable pub opening_text : Version → Gtids → List ℕ
@@ -55,6 +54,11 @@ abbrev pub uniques_text : List (List ℕ) → List ℕ
 uniques_text [] = []
 uniques_text (u ∷ us) = codes " uk " ++ (columns_text u ++ uniques_text us)
 
+-- how many columns are hidden, if any are
+abbrev pub hidden_part : ℕ → List ℕ
+hidden_part zero = []
+hidden_part (suc n) = codes " hidden" ++ 32 ∷ decimal (suc n)
+
 abbrev pub tables_text : List Table → List ℕ
 tables_text [] = []
 tables_text (t ∷ ts) = ended_bundle_line (Own (Has (shape_for t))) ++ tables_text ts
@@ -63,18 +67,18 @@ abbrev pub rows_text : List TableRow → List ℕ
 rows_text [] = []
 rows_text (r ∷ rs) = ended_bundle_line (Own (Puts r)) ++ rows_text rs
 
--- a channel, and its journal by version 2 of the format
-unfoldable pub channel_and_journal_text : List Table → BundleChannel → JournalValue → List ℕ
-channel_and_journal_text tables c j = bundle_text (channel_lines Two c (right_stamps Two tables j.entries) j)
+-- a channel, and its journal
+unfoldable pub channel_and_journal_text : Version → List Table → BundleChannel → JournalValue → List ℕ
+channel_and_journal_text version tables c j = bundle_text (channel_lines version c (right_stamps version tables j.entries) j)
 
-abbrev pub channels_and_journals_text : List Table → List BundleChannel → List JournalValue → List ℕ
-channels_and_journals_text tables (c ∷ cs) (j ∷ js) = channel_and_journal_text tables c j ++ channels_and_journals_text tables cs js
-channels_and_journals_text tables _ _ = []
+abbrev pub channels_and_journals_text : Version → List Table → List BundleChannel → List JournalValue → List ℕ
+channels_and_journals_text version tables (c ∷ cs) (j ∷ js) = channel_and_journal_text version tables c j ++ channels_and_journals_text version tables cs js
+channels_and_journals_text version tables _ _ = []
 
--- the first three lines of a bundle
-unfoldable pub head_text : ℕ → Gtids → List ℕ
-head_text replica opened = bundle_text (Own (Heads Two) ∷ Own (Names replica) ∷ Own (Starts opened) ∷ [])
+-- the lines of a bundle before its tables
+unfoldable pub head_text : Version → ℕ → Gtids → List ℕ
+head_text version replica opened = bundle_text (Own (Heads version) ∷ Own (Names replica) ∷ opening_set_lines version opened)
 
 -- the lines before the first channel
-unfoldable pub start_text : ℕ → Gtids → List Table → List TableRow → List ℕ
-start_text replica opened tables rows = head_text replica opened ++ (tables_text tables ++ rows_text rows)
+unfoldable pub start_text : Version → ℕ → Gtids → List Table → List TableRow → List ℕ
+start_text version replica opened tables rows = head_text version replica opened ++ (tables_text tables ++ rows_text rows)

@@ -1,12 +1,13 @@
 -- Journals that stand alone, as version 2 of the format writes them: each entry has its last_committed.
 use Rattle.std.specs.Prelude.{◌≡◌, ℕ, List, ◌++◌, Some, Result, Ok, codes}
+use Rattle.rows.specs.declared.limits.Limits.TheVariants.{Narrow}
 use Rattle.rows.specs.declared.schema.Table.{Table}
 use Rattle.journal.specs.Journals.{JournalValue}
 use Rattle.txn_journal.specs.Stream.{Progress}
 use Rattle.txn_journal.specs.Formats.{Format, closing_by, RefusesBy}
 use Rattle.txn_journal.specs.Machine.{Standing}
 use Rattle.txn_journal.specs.Reading.{journals_as, alone_start, feed_journal_bytes}
-use Rattle.txn_journal.specs.Spelling.{WritesAs, spelling_as}
+use Rattle.txn_journal.specs.Spelling.{WritesAs, FitsText, spelling_as}
 use Rattle.txn_journal.specs.Stamps.{right_stamps}
 use Rattle.txn_journal.specs.declared.fault.Cause.TheVariants as causes
 use Rattle.txn_journal.specs.declared.fault.JournalFault.{JournalFault}
@@ -52,6 +53,10 @@ first_line_version = faults.Line 1 causes.Version
 -- a journal with the last_committed that the keys of its entries give, if its tables are these
 abbrev pub with_timestamps : List Table → JournalValue → TimestampedValue
 with_timestamps tables j = record { journal = j; last_committed = right_stamps Two tables j.entries }
+
+-- it is that text of this journal, if it has no more than a text may have
+abbrev pub WritesIfFits : List ℕ → List Table → JournalValue → Type 0
+WritesIfFits bytes tables j = FitsText Narrow j → WritesTimestamped bytes (with_timestamps tables j)
 
 -- its text by version 2
 abbrev pub timestamped_text : TimestampedValue → List ℕ

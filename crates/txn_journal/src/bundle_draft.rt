@@ -3,6 +3,7 @@ ghost use Rattle.std.specs.Prelude.{◌≡◌, None, option_map};
 ghost use Rattle.txn_journal.specs.Stream.{Finds};
 ghost use Rattle.txn_journal.specs.Writers.{AreWriters};
 ghost use Rattle.txn_journal.specs.BundleStates.{word_of, replica_in, preserve_in, channel_in, has_channel};
+ghost use Rattle.rows.specs.declared.limits.Limits.TheVariants.{Narrow};
 
 use crate::bundle::BundleChannel;
 use crate::draft::{Draft, version_in};
@@ -129,16 +130,17 @@ fn replica_in(alloc: Global, rest: Option<&[u8]>) -> Result<SourceId, LineFault>
 #[tactic(auto, unfolding(crate::specs::BundleStates::channel_in))]
 fn channel_in(
     alloc: Global,
+    limits: Limits,
     names: &mut Names,
     rest: Option<&[u8]>,
 ) -> Result<BundleChannel, LineFault>
-    ensures { Finds (λ c. c) result (channel_in (option_map (λ r. r.now) rest.entry)) }
+    ensures { Finds (λ c. c) result (channel_in limits (option_map (λ r. r.now) rest.entry)) }
 {
     let Some(text) = rest else {
         return Err(LineFault::Wrong(Cause::Body));
     };
     let (word, more) = cut(text);
-    let Some(name) = names.read(alloc, word)? else {
+    let Some(name) = names.read(alloc, limits, word)? else {
         return Err(LineFault::Wrong(Cause::Body));
     };
     let preserve = preserve_in(more)?;
@@ -185,9 +187,10 @@ impl BundleDraft {
     ghost use Rattle.txn_journal.specs.declared.lines.LinePlace.TheVariants.{Within};
     ghost use Rattle.txn_journal.specs.declared.bundle_draft.Word.TheVariants as words;
     ghost use Rattle.txn_journal.specs.declared.bundle_draft.Part.TheVariants as parts;
-    ghost use Rattle.txn_journal.specs.declared.lines.Version.TheVariants.{One, Two};
+    ghost use Rattle.txn_journal.specs.declared.lines.Version.TheVariants.{One};
+    ghost use Rattle.txn_journal.specs.Versions.{is_numbered};
     ghost use Rattle.txn_journal.specs.Stream.{TakesLine, GivesFull, IsRefusedWhereFull, TakesPlain, IsLeftWhereFull};
-    ghost use Rattle.txn_journal.specs.BundleStates.{IsFullBundle, CountsFirst, no_bundle, is_done, version_line, replica_line, opening_line, add_table_line, row_line, put_row, after_tables, channel_line, join_channel, done_line, own_step, judge_own, after_inner, end_entry, close_channel, judge_inner, judge_bundle};
+    ghost use Rattle.txn_journal.specs.BundleStates.{IsFullBundle, CountsFirst, no_bundle, is_done, version_line, replica_line, opening_line, add_table_line, row_line, put_within, put_row, after_tables, channel_line, join_channel, done_line, own_step, judge_own, after_inner, end_entry, close_channel, judge_inner, judge_bundle};
     ghost use Rattle.txn_journal.specs.BundleDrafts.{bundle_standing};
     ghost use Rattle.txn_journal.specs.ChangeLines.{change_in};
     ghost use Rattle.txn_journal.specs.BundleChanges.{with_change};
@@ -215,7 +218,7 @@ impl BundleDraft {
         }
     }
 
-    /// Before the first line again, of either version.
+    /// Before the first line again, of any version.
     #[cold]
     #[inline(never)]
     pub fn start_again(&mut self, alloc: Global)
@@ -280,7 +283,7 @@ impl BundleDraft {
                 self.bundle = OpenBundle::open(alloc, replica, GtidSet::empty(alloc), rows);
                 self.part = match self.version {
                     Version::One => Part::Tables,
-                    Version::Two => Part::Opening,
+                    Version::Two | Version::Three => Part::Opening,
                 };
                 Ok(())
             }
@@ -315,7 +318,8 @@ impl BundleDraft {
         let Some(text) = rest else {
             return Err(LineFault::Wrong(Cause::Body));
         };
-        add_table(alloc, &mut self.names, &mut self.schema, text)
+        let limits = self.version.limits();
+        add_table(alloc, limits, &mut self.names, &mut self.schema, text)
     }
 
     /// Opens the rows, if the tables end here.
@@ -334,13 +338,20 @@ impl BundleDraft {
     fn add_row(&mut self, alloc: Global, rest: Option<&[u8]>) -> Result<(), LineFault>
         ensures { TakesLine IsFullBundle result (row_line (bundle_standing self.old) (option_map (λ r. r.now) rest.entry)) (bundle_standing self.new) }
     {
-        let (table, text) = table_at(&mut self.names, alloc, rest)?;
+        let (table, text) = table_at(&mut self.names, alloc, self.version.limits(), rest)?;
         let row = image(alloc, text)?;
-        if !journal::is_image_writable(&row, Limits::Narrow) {
+        self.put_within(alloc, &table, &row)
+    }
+
+    /// Puts an opening row, if it is within the limits.
+    fn put_within(&mut self, alloc: Global, table: &Name, row: &Row) -> Result<(), LineFault>
+        ensures { TakesLine IsFullBundle result (put_within (bundle_standing self.old) (record { table = table.now; row = row.now })) (bundle_standing self.new) }
+    {
+        if !journal::is_image_writable(row, self.version.limits()) {
             return Err(LineFault::Wrong(Cause::Limit));
         }
         self.leave_tables(alloc);
-        self.put(alloc, &table, &row)
+        self.put(alloc, table, row)
     }
 
     #[tactic(auto, unfolding(crate::specs::BundleStates::put_row))]
@@ -355,7 +366,7 @@ impl BundleDraft {
     fn open_channel(&mut self, alloc: Global, rest: Option<&[u8]>) -> Result<(), LineFault>
         ensures { TakesLine IsFullBundle result (channel_line (bundle_standing self.old) (option_map (λ r. r.now) rest.entry)) (bundle_standing self.new) }
     {
-        let channel = channel_in(alloc, &mut self.names, rest)?;
+        let channel = channel_in(alloc, self.version.limits(), &mut self.names, rest)?;
         self.join(alloc, channel)
     }
 
@@ -408,7 +419,7 @@ impl BundleDraft {
         alloc: Global,
         entry: &Entry,
     ) -> Result<(u64, Option<LastWriters>), AllocError>
-        requires { self.old.version ≡ Two }
+        requires { is_numbered self.old.version ≡ true }
         ensures stamp { IfOk result (λ r. r.0 ≡ right_stamp self.old.version self.old.bundle.start.schema self.old.draft.journal.entries entry.now) }
         ensures writers { IfOk result (λ r. AreWriters self.old.bundle.start.schema (self.old.draft.journal.entries ++ entry.now ∷ []) r.1) }
         ensures left { bundle_standing self.new ≡ bundle_standing self.old }
@@ -429,7 +440,7 @@ impl BundleDraft {
         self.bundle.opening_set().keeps_limits();
         match self.version {
             Version::One => self.draft.stamp() == 0 && !self.draft.has_room(),
-            Version::Two => false,
+            Version::Two | Version::Three => false,
         }
     }
 
@@ -452,7 +463,7 @@ impl BundleDraft {
     {
         match self.version {
             Version::One => self.end_unnumbered(alloc),
-            Version::Two => self.end_numbered(alloc),
+            Version::Two | Version::Three => self.end_numbered(alloc),
         }
     }
 
@@ -472,11 +483,11 @@ impl BundleDraft {
         Ok(())
     }
 
-    /// The same in version 2.
+    /// The same in a version that writes numbers.
     #[inline(never)]
     fn end_numbered(&mut self, alloc: Global) -> Result<(), LineFault>
         requires place { (standing self.old.draft).place ≡ Within }
-        requires version { self.old.version ≡ Two }
+        requires version { is_numbered self.old.version ≡ true }
         ensures { TakesLine IsFullBundle result (end_entry (bundle_standing self.old)) (bundle_standing self.new) }
     {
         let entry = self.draft.take_entry(alloc)?;
@@ -585,7 +596,7 @@ impl BundleDraft {
         self.bundle.opening_set().keeps_limits();
         match self.version {
             Version::One => self.draft.stamp() == 0 && self.draft.has_room(),
-            Version::Two => false,
+            Version::Two | Version::Three => false,
         }
     }
 
@@ -656,10 +667,13 @@ impl BundleDraft {
         line: &[u8],
         change: Change,
     ) -> Result<(), LineFault>
-        requires { change_in line.now ≡ Ok change }
+        requires { change_in Narrow line.now ≡ Ok change }
         ensures { TakesLine IsFullBundle result (judge_bundle (bundle_standing self.old) line.now) (bundle_standing self.new) }
     {
-        if self.part == Part::Journal && self.draft.is_within() {
+        if self.part == Part::Journal
+            && self.draft.is_within()
+            && self.draft.limits() == Limits::Narrow
+        {
             return self.add_change(change);
         }
         self.take_line(alloc, line)

@@ -136,7 +136,7 @@ impl BundleReader {
     ghost use Rattle.txn_journal.specs.BundleReading.{bundles, bundle_start, closing_bundle};
     ghost use Rattle.txn_journal.specs.BundleReaders.{bundle_reading};
 
-    /// Before the first byte of a bundle of either version.
+    /// Before the first byte of a bundle of any version.
     pub fn start(alloc: Global) -> BundleReader
         ensures { bundle_reading result ≡ bundle_start None }
     {
@@ -207,7 +207,7 @@ fn read_bundle(alloc: Global, due: Option<Version>, bytes: &[u8]) -> Result<Bund
     }
 }
 
-/// The bundle that the bytes parse as, all of the bytes, by either version of the format.
+/// The bundle that the bytes parse as, all of the bytes, by any version of the format.
 pub fn decode_bundle(alloc: Global, bytes: &[u8]) -> Result<Bundle, JournalFault>
     // Accepted bytes are a text of this value by the grammar.
     ensures found { IfOk result (λ b. WritesBundle bytes.now b) }

@@ -1,15 +1,14 @@
 //! Bundles written as text.
 ghost use Rattle.std.specs.Prelude.{◌≡◌, ◌∷◌, ◌++◌, IfOk, OnOk, codes, decimal};
 ghost use Rattle.std.specs.String.{string_bytes};
-ghost use Rattle.rows.specs.Listing.{rows_listed};
 ghost use Rattle.txn_journal.specs.Splits.{columns_text};
 ghost use Rattle.txn_journal.specs.Shapes.{shape_for};
-ghost use Rattle.txn_journal.specs.BundleText.{upgrade_of, Names, Starts, Has, Puts, Opens, Own, ended_bundle_line, bundle_spelling, WritesBundle};
-ghost use Rattle.txn_journal.specs.Texts.{columns_behind, uniques_text, tables_text, rows_text, channel_and_journal_text, channels_and_journals_text, head_text, start_text};
-ghost use Rattle.txn_journal.specs.declared.lines.Version.TheVariants.{Two};
+ghost use Rattle.txn_journal.specs.BundleText.{Heads, Names, Has, Puts, Opens, Own, ended_bundle_line, bundle_text, opening_set_lines, bundle_spelling, spelling_by, WritesWhereWritable};
+ghost use Rattle.txn_journal.specs.Texts.{columns_behind, uniques_text, hidden_part, tables_text, rows_text, channel_and_journal_text, channels_and_journals_text, head_text, start_text};
 
 use crate::bundle::{Bundle, BundleChannel};
-use crate::writer::{write_image, write_journal_v2, write_next_number, write_number, write_set};
+use crate::lines::Version;
+use crate::writer::{write_image, write_journal_by, write_next_number, write_number, write_set};
 use gtid_set::GtidSet;
 use gtid_text::{SourceId, write_source};
 use journal::Journal;
@@ -26,29 +25,51 @@ fn write_replica(out: &mut String, replica: SourceId) -> Result<(), AllocError>
     out.push_str("\n")
 }
 
-/// Appends the line of an opening set.
+/// Appends the line of an opening set, which version 1 does not have.
 #[tactic(auto, using(crate::proofs::BundleWriting::opened_appended))]
-fn write_opening_set(alloc: Global, out: &mut String, opened: &GtidSet) -> Result<(), AllocError>
-    ensures { OnOk result (string_bytes out.new ≡ string_bytes out.old ++ ended_bundle_line (Own (Starts opened.now))) }
+fn write_opening_set(
+    alloc: Global,
+    out: &mut String,
+    version: Version,
+    opened: &GtidSet,
+) -> Result<(), AllocError>
+    ensures { OnOk result (string_bytes out.new ≡ string_bytes out.old ++ bundle_text (opening_set_lines version opened.now)) }
 {
-    out.push_str("opening ")?;
-    write_set(alloc, out, opened)?;
-    out.push_str("\n")
+    match version {
+        Version::One => Ok(()),
+        Version::Two | Version::Three => {
+            out.push_str("opening ")?;
+            write_set(alloc, out, opened)?;
+            out.push_str("\n")
+        }
+    }
 }
 
-/// Appends the first three lines of a bundle.
+/// Appends the first line of a bundle.
+fn write_version(out: &mut String, version: Version) -> Result<(), AllocError>
+    ensures { OnOk result (string_bytes out.new ≡ string_bytes out.old ++ ended_bundle_line (Own (Heads version))) }
+{
+    match version {
+        Version::One => out.push_str("bundle 1\n"),
+        Version::Two => out.push_str("bundle 2\n"),
+        Version::Three => out.push_str("bundle 3\n"),
+    }
+}
+
+/// Appends the lines of a bundle before its tables.
 #[tactic(auto, using(crate::proofs::BundleWriting::head_appended))]
 fn write_head(
     alloc: Global,
     out: &mut String,
+    version: Version,
     replica: SourceId,
     opened: &GtidSet,
 ) -> Result<(), AllocError>
-    ensures { OnOk result (string_bytes out.new ≡ string_bytes out.old ++ head_text replica opened.now) }
+    ensures { OnOk result (string_bytes out.new ≡ string_bytes out.old ++ head_text version replica opened.now) }
 {
-    out.push_str("bundle 2\n")?;
+    write_version(out, version)?;
     write_replica(out, replica)?;
-    write_opening_set(alloc, out, opened)
+    write_opening_set(alloc, out, version, opened)
 }
 
 /// Appends a column after a comma.
@@ -98,6 +119,17 @@ fn write_uniques(out: &mut String, uniques: &[Columns]) -> Result<(), AllocError
     Ok(())
 }
 
+/// Appends how many columns are hidden, if any are.
+fn write_hidden(out: &mut String, hidden: u32) -> Result<(), AllocError>
+    ensures { OnOk result (string_bytes out.new ≡ string_bytes out.old ++ hidden_part hidden) }
+{
+    if hidden == 0 {
+        return Ok(());
+    }
+    out.push_str(" hidden")?;
+    write_next_number(out, u64::from(hidden))
+}
+
 /// Appends the line of a table.
 #[tactic(auto, using(crate::proofs::BundleWriting::table_appended))]
 fn write_table(out: &mut String, table: &Table) -> Result<(), AllocError>
@@ -109,6 +141,7 @@ fn write_table(out: &mut String, table: &Table) -> Result<(), AllocError>
     out.push_str(" pk ")?;
     write_columns(out, table.primary.as_slice())?;
     write_uniques(out, table.uniques.as_slice())?;
+    write_hidden(out, table.hidden)?;
     out.push_str("\n")
 }
 
@@ -159,28 +192,30 @@ fn write_channel(out: &mut String, channel: &BundleChannel) -> Result<(), AllocE
 fn write_channel_and_journal(
     alloc: Global,
     out: &mut String,
+    version: Version,
     schema: &Schema,
     channel: &BundleChannel,
     journal: &Journal,
 ) -> Result<(), AllocError>
-    ensures { OnOk result (string_bytes out.new ≡ string_bytes out.old ++ channel_and_journal_text schema.now channel.now journal.now) }
+    ensures { OnOk result (string_bytes out.new ≡ string_bytes out.old ++ channel_and_journal_text version schema.now channel.now journal.now) }
 {
     write_channel(out, channel)?;
-    write_journal_v2(alloc, out, schema, journal)
+    write_journal_by(alloc, out, version, schema, journal)
 }
 
 /// Appends the lines of channels and their journals.
 fn write_channels(
     alloc: Global,
     out: &mut String,
+    version: Version,
     schema: &Schema,
     channels: &[BundleChannel],
     journals: &[Journal],
 ) -> Result<(), AllocError>
-    ensures { OnOk result (string_bytes out.new ≡ string_bytes out.old ++ channels_and_journals_text schema.now channels.now journals.now) }
+    ensures { OnOk result (string_bytes out.new ≡ string_bytes out.old ++ channels_and_journals_text version schema.now channels.now journals.now) }
 {
     for (channel, journal) in channels.iter().zip(journals) {
-        write_channel_and_journal(alloc, out, schema, channel, journal)?;
+        write_channel_and_journal(alloc, out, version, schema, channel, journal)?;
     }
     Ok(())
 }
@@ -190,14 +225,15 @@ fn write_channels(
 fn write_start(
     alloc: Global,
     out: &mut String,
+    version: Version,
     replica: SourceId,
     opened: &GtidSet,
     tables: &[Table],
     rows: &[TableRow],
 ) -> Result<(), AllocError>
-    ensures { OnOk result (string_bytes out.new ≡ string_bytes out.old ++ start_text replica opened.now tables.now rows.now) }
+    ensures { OnOk result (string_bytes out.new ≡ string_bytes out.old ++ start_text version replica opened.now tables.now rows.now) }
 {
-    write_head(alloc, out, replica, opened)?;
+    write_head(alloc, out, version, replica, opened)?;
     write_tables(out, tables)?;
     write_rows(alloc, out, rows)
 }
@@ -207,43 +243,49 @@ fn write_start(
 fn write_bundle(
     alloc: Global,
     out: &mut String,
+    version: Version,
     rows: &[TableRow],
     bundle: &Bundle,
 ) -> Result<(), AllocError>
-    ensures { OnOk result (string_bytes out.new ≡ string_bytes out.old ++ bundle_spelling Two rows.now bundle.now) }
+    ensures { OnOk result (string_bytes out.new ≡ string_bytes out.old ++ bundle_spelling version rows.now bundle.now) }
 {
     let schema = bundle.schema();
     write_start(
         alloc,
         out,
+        version,
         bundle.replica(),
         bundle.opening_set(),
         schema.tables(),
         rows,
     )?;
-    write_channels(alloc, out, schema, bundle.channels(), bundle.journals())?;
+    let (channels, journals) = (bundle.channels(), bundle.journals());
+    write_channels(alloc, out, version, schema, channels, journals)?;
     out.push_str("done\n")
 }
 
-/// The text of a bundle by version 2 of the format: its lines, each ended by one line feed. Rows come by table name, and
-/// then by the values of their primary key; each entry has its last_committed and its sequence number.
-pub fn bundle_text_v2(alloc: Global, bundle: &Bundle) -> Result<String, AllocError>
-    ensures spelled { IfOk result (λ text. string_bytes text ≡ upgrade_of bundle.now) }
-    // It is a text by the grammar, and read back as this bundle.
-    ensures writes { IfOk result (λ text. WritesBundle (string_bytes text) bundle.now) }
+/// The text of a bundle by a version of the format: its lines, each ended by one line feed. Rows come by table name, and then by the
+/// values of their primary key; each entry has its last_committed and its sequence number, but in version 1.
+pub fn bundle_text(alloc: Global, version: Version, bundle: &Bundle) -> Result<String, AllocError>
+    ensures spelled { IfOk result (λ text. string_bytes text ≡ spelling_by version bundle.now) }
+    // It is a text by the grammar, and read back as this bundle, if that version can write it.
+    ensures writes { IfOk result (λ text. WritesWhereWritable version (string_bytes text) bundle.now) }
 {
-    bundle.keeps_rules();
     let rows = bundle.rows().list_sorted(alloc)?;
     let mut out = String::new(alloc);
-    write_bundle(alloc, &mut out, rows.as_slice(), bundle)?;
+    write_bundle(alloc, &mut out, version, rows.as_slice(), bundle)?;
     Ok(out)
 }
 
 /// The same as bytes.
-pub fn encode_bundle_v2(alloc: Global, bundle: &Bundle) -> Result<Vec<u8>, AllocError>
-    ensures spelled { IfOk result (λ bytes. bytes.items ≡ bundle_spelling Two (rows_listed bundle.now.start.rows) bundle.now) }
-    ensures writes { IfOk result (λ bytes. WritesBundle bytes.items bundle.now) }
+pub fn encode_bundle(
+    alloc: Global,
+    version: Version,
+    bundle: &Bundle,
+) -> Result<Vec<u8>, AllocError>
+    ensures spelled { IfOk result (λ bytes. bytes.items ≡ spelling_by version bundle.now) }
+    ensures writes { IfOk result (λ bytes. WritesWhereWritable version bytes.items bundle.now) }
 {
-    let text = bundle_text_v2(alloc, bundle)?;
+    let text = bundle_text(alloc, version, bundle)?;
     Ok(text.into_bytes())
 }

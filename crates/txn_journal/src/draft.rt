@@ -10,6 +10,7 @@ ghost use Rattle.txn_journal.specs.Due.{is_due};
 ghost use Rattle.txn_journal.specs.declared.lines.LinePlace.TheVariants.{Between, Within};
 ghost use Rattle.txn_journal.specs.declared.lines.Keyword.TheVariants.{Ins, Upd, Del};
 ghost use Rattle.txn_journal.specs.declared.fault.Cause.{Cause};
+ghost use Rattle.txn_journal.specs.Versions.{limits_of};
 ghost use Rattle.rows.specs.declared.limits.Limits.TheVariants.{Narrow};
 
 use crate::fault::{Cause, LineFault};
@@ -26,9 +27,6 @@ use row_images::{cut, is_count};
 use rows::{Change, Changes, Limits, Name, Row, Schema, Table, Transaction, has_null_at};
 use std::alloc::{AllocError, Global};
 use std::mem;
-
-/// The greatest number of changes of a transaction.
-pub const MAX_CHANGES: usize = 65_536;
 
 /// The greatest number of entries of a journal's text. Our own limit.
 pub const MAX_ENTRIES: u64 = 4_294_967_294;
@@ -55,7 +53,7 @@ pub struct Draft {
     changes: Vec<Change>,
     ghost seen_all: { IsSeen journal seen },
     ghost open_new: { IsOpenNew place seen count gtid },
-    ghost writable: { AreWritable changes.items },
+    ghost writable: { AreWritable (limits_of version) changes.items },
     ghost few: { count ≤ 4294967294 },
 }
 
@@ -72,6 +70,7 @@ pub fn version_in(due: Option<Version>, rest: Option<&[u8]>) -> Result<Version, 
     match (word, due) {
         (b"1", None | Some(Version::One)) => Ok(Version::One),
         (b"2", None | Some(Version::Two)) => Ok(Version::Two),
+        (b"3", None | Some(Version::Three)) => Ok(Version::Three),
         _ => Err(LineFault::Wrong(Cause::Version)),
     }
 }
@@ -255,7 +254,7 @@ impl Draft {
         ensures room { IsRefusedWhereFull IsFull result (step (option_map (λ tables. tables.now) schema.entry) (standing self.old) keyword (option_map (λ r. r.now) rest.entry)) }
     {
         match keyword {
-            Keyword::Journal => self.open(rest),
+            Keyword::Journal => self.open(alloc, rest),
             Keyword::Previous => self.follow(alloc, rest),
             Keyword::Txn => self.begin(alloc, rest),
             Keyword::Ins => self.insert(alloc, schema, names, rest),
@@ -279,7 +278,7 @@ impl Draft {
         requires { is_due self.old.place Ins ≡ true }
         ensures { TakesLine IsFull result (step (option_map (λ tables. tables.now) schema.entry) (standing self.old) Ins (option_map (λ r. r.now) rest.entry)) (standing self.new) }
     {
-        let (table, text) = table_at(names, alloc, rest)?;
+        let (table, text) = table_at(names, alloc, self.version.limits(), rest)?;
         let after = image(alloc, text)?;
         self.add(schema, Change::Insert { table, after })
     }
@@ -297,7 +296,7 @@ impl Draft {
         requires { is_due self.old.place Del ≡ true }
         ensures { TakesLine IsFull result (step (option_map (λ tables. tables.now) schema.entry) (standing self.old) Del (option_map (λ r. r.now) rest.entry)) (standing self.new) }
     {
-        let (table, text) = table_at(names, alloc, rest)?;
+        let (table, text) = table_at(names, alloc, self.version.limits(), rest)?;
         let before = image(alloc, text)?;
         self.add(schema, Change::Delete { table, before })
     }
@@ -315,7 +314,7 @@ impl Draft {
         requires { is_due self.old.place Upd ≡ true }
         ensures { TakesLine IsFull result (step (option_map (λ tables. tables.now) schema.entry) (standing self.old) Upd (option_map (λ r. r.now) rest.entry)) (standing self.new) }
     {
-        let (table, text) = table_at(names, alloc, rest)?;
+        let (table, text) = table_at(names, alloc, self.version.limits(), rest)?;
         let (before, after) = two_images(alloc, text)?;
         self.add(
             schema,
@@ -329,11 +328,12 @@ impl Draft {
 
     #[tactic(auto, unfolding(crate::specs::Machine::header_line))]
     #[inline(never)]
-    fn open(&mut self, rest: Option<&[u8]>) -> Result<(), LineFault>
+    fn open(&mut self, alloc: Global, rest: Option<&[u8]>) -> Result<(), LineFault>
         ensures { TakesLine IsFull result (header_line (standing self.old) (option_map (λ r. r.now) rest.entry)) (standing self.new) }
     {
         match version_in(self.due, rest) {
             Ok(version) => {
+                self.changes = Vec::new(alloc);
                 self.version = version;
                 self.place = LinePlace::Previous;
                 Ok(())
@@ -392,7 +392,8 @@ impl Draft {
         ensures line { TakesLine IsFull result (add (option_map (λ tables. tables.now) schema.entry) (standing self.old) change) (standing self.new) }
         ensures journal { (standing self.new).journal ≡ (standing self.old).journal }
     {
-        if self.changes.len() >= MAX_CHANGES || !is_change_writable(&change, Limits::Narrow) {
+        let limits = self.version.limits();
+        if self.changes.len() >= limits.changes() || !is_change_writable(&change, limits) {
             return Err(LineFault::Wrong(Cause::Limit));
         }
         if !fits(schema, &change) {
@@ -424,6 +425,13 @@ impl Draft {
         ensures { result ≡ (is_within (standing self.now).place && bytes_eq line.now (codes "end")) }
     {
         self.place == LinePlace::Within && line == b"end".as_slice()
+    }
+
+    /// The limits of the journal's version.
+    pub fn limits(&self) -> Limits
+        ensures { result ≡ limits_of (standing self.now).version }
+    {
+        self.version.limits()
     }
 
     /// Whether an entry is open.
@@ -485,7 +493,7 @@ impl Draft {
     pub fn take_entry(&mut self, alloc: Global) -> Result<Entry, AllocError>
         requires { (standing self.old).place ≡ Within }
         ensures entry { IfOk result (λ entry. entry ≡ open_entry (standing self.old)) }
-        ensures writable { IfOk result (λ entry. is_writable Narrow entry ≡ true) }
+        ensures writable { IfOk result (λ entry. is_writable (limits_of (standing self.old).version) entry ≡ true) }
         ensures left { standing self.new ≡ record (standing self.old) { changes = [] } }
     {
         let changes = self.take_changes(alloc)?;
@@ -495,12 +503,12 @@ impl Draft {
         })
     }
 
-    #[tactic(auto, using(journal::proofs::WritableLemmas::widened))]
+    #[tactic(auto, using(crate::proofs::SoundLines::wide_entry))]
     /// An entry with the GTID of the one that is open joins the others.
     pub fn join(&mut self, entry: Entry) -> Result<(), LineFault>
         requires place { (standing self.old).place ≡ Within }
         requires gtid { entry.gtid ≡ (standing self.old).gtid }
-        requires writable { is_writable Narrow entry ≡ true }
+        requires writable { is_writable (limits_of (standing self.old).version) entry ≡ true }
         requires taken { (standing self.old).changes ≡ [] }
         ensures line { TakesLine IsFull result (Ok (join_entry (standing self.old) entry)) (standing self.new) }
         ensures room { IsRefusedWhereFull IsFull result (Ok (join_entry (standing self.old) entry)) }
@@ -544,7 +552,8 @@ impl Draft {
         ensures place { self.new.place ≡ self.old.place }
         ensures left { result ≡ false → standing self.new ≡ standing self.old }
     {
-        if self.changes.len() >= MAX_CHANGES || !is_change_writable(&change, Limits::Narrow) {
+        let limits = self.version.limits();
+        if self.changes.len() >= limits.changes() || !is_change_writable(&change, limits) {
             return false;
         }
         if !fits(Some(schema), &change) {
@@ -570,7 +579,7 @@ impl Draft {
         ensures place { self.new.place ≡ self.old.place }
         ensures left { result ≡ false → standing self.new ≡ standing self.old }
     {
-        let Some((table, text)) = find_table(names, alloc, rest) else {
+        let Some((table, text)) = find_table(names, alloc, self.version.limits(), rest) else {
             return false;
         };
         let Some(after) = find_image(alloc, text) else {
@@ -593,7 +602,7 @@ impl Draft {
         ensures place { self.new.place ≡ self.old.place }
         ensures left { result ≡ false → standing self.new ≡ standing self.old }
     {
-        let Some((table, text)) = find_table(names, alloc, rest) else {
+        let Some((table, text)) = find_table(names, alloc, self.version.limits(), rest) else {
             return false;
         };
         let Some(before) = find_image(alloc, text) else {
@@ -616,7 +625,7 @@ impl Draft {
         ensures place { self.new.place ≡ self.old.place }
         ensures left { result ≡ false → standing self.new ≡ standing self.old }
     {
-        let Some((table, text)) = find_table(names, alloc, rest) else {
+        let Some((table, text)) = find_table(names, alloc, self.version.limits(), rest) else {
             return false;
         };
         let Some((before, after)) = find_images(alloc, text) else {
@@ -714,7 +723,7 @@ impl Draft {
         gtid: Gtid,
         changes: Changes,
     ) -> Result<bool, AllocError>
-        requires { AreWritable changes }
+        requires { AreWritable Narrow changes }
         ensures { JoinsEntry schema.now result gtid changes (standing self.old) (standing self.new) }
     {
         if !self.may_follow(schema, &gtid, &changes) {

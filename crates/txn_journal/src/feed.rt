@@ -4,6 +4,7 @@ ghost use Rattle.gtid_set.specs.declared.fault.SetFault.{SetFault};
 ghost use Rattle.txn_journal.specs.Words.{IsOneLine, BeginsWithLine};
 ghost use Rattle.txn_journal.specs.Stream.{Judge, TakesLine, IsRefusedWhereFull, TakesPlain, IsLeftWhereFull};
 ghost use Rattle.txn_journal.specs.ChangeLines.{change_in};
+ghost use Rattle.rows.specs.declared.limits.Limits.TheVariants.{Narrow};
 ghost use Rattle.txn_journal.specs.TakenEntries.{TakesText};
 
 use crate::fault::{Cause, JournalFault, LineFault};
@@ -52,7 +53,7 @@ pub trait TakeLine {
 pub trait TakeChange: TakeLine {
     /// Takes the next line, which writes this change, or returns its first fault.
     fn take_change(&mut self, alloc: Global, line: &[u8], change: Change) -> Result<(), LineFault>
-        requires { change_in line.now ≡ Ok change }
+        requires { change_in Narrow line.now ≡ Ok change }
         ensures { TakesLine Self.full result (Self.judge self.old line.now) self.new };
 
     /// Takes the lines of a whole entry, if nothing is wrong with them. If false, nothing has changed.
@@ -314,7 +315,7 @@ impl<T: TakeChange> Feed<T> {
     ) -> Result<(), JournalFault>
         requires goes { self.old.stopped ≡ None }
         requires whole { IsOneLine line.now }
-        requires written { HasChange line.now change }
+        requires written { HasChange Narrow line.now change }
         ensures next { TakesPiece (IsPieceFault T.full T.judge (progress self.old) (line.now ++ 10 ∷ [])) result (progress self.new) (feed_bytes T.judge (progress self.old) (line.now ++ 10 ∷ [])) }
         ensures goes { self.new.stopped ≡ None }
     {
@@ -339,7 +340,7 @@ impl<T: TakeChange> Feed<T> {
         requires goes { self.old.stopped ≡ None }
         requires first { self.old.rest.items ≡ [] }
         requires whole { IsOneLine line.now }
-        requires written { change_in line.now ≡ Ok change }
+        requires written { change_in Narrow line.now ≡ Ok change }
         ensures next { TakesPiece (IsPieceFault T.full T.judge (progress self.old) (line.now ++ 10 ∷ [])) result (progress self.new) (feed_bytes T.judge (progress self.old) (line.now ++ 10 ∷ [])) }
         ensures goes { self.new.stopped ≡ None }
     {

@@ -2,6 +2,7 @@
 //!
 //! The functions do nothing; a proof calls them for their contracts.
 ghost use Rattle.std.specs.List.{AllByRecursion};
+ghost use Rattle.rows.specs.declared.limits.Limits.{Limits};
 ghost use Rattle.txn_journal.specs.Spelling.{HasValues, IsOfParts, FitsText, IsWritten};
 
 use journal::{Entry, Journal};
@@ -54,9 +55,8 @@ fn entries_fit(entries: &[Entry])
 }
 
 /// A journal's type keeps all that its text needs, but for how many entries there are, their limits and their names.
-#[tactic(auto, using(crate::proofs::WrittenLaws::few_written))]
 pub(crate) fn journal_fits(journal: &Journal)
-    ensures { FitsText journal.now → IsWritten journal.now }
+    ensures { (limits : Limits) → FitsText limits journal.now → IsWritten limits journal.now }
 {
     journal.keeps_rules();
     journal.previous().keeps_sources();

@@ -7,7 +7,7 @@ use crate::fault::{Cause, LineFault};
 use crate::names::Names;
 use memchr::memchr;
 use row_images::cut;
-use rows::{Name, Row};
+use rows::{Limits, Name, Row};
 use std::alloc::Global;
 
 /// The image that a text has.
@@ -49,14 +49,19 @@ pub fn find_images(alloc: Global, text: &[u8]) -> Option<(Row, Row)>
 }
 
 /// The table's name at the start of a line's rest, and what follows it, if both are there and there is memory.
-pub fn find_table<'a>(names: &mut Names, alloc: Global, rest: &'a [u8]) -> Option<(Name, &'a [u8])>
-    ensures { IfSome result (λ found. table_in (Some rest.now) ≡ Ok (found.0, found.1.now)) }
+pub fn find_table<'a>(
+    names: &mut Names,
+    alloc: Global,
+    limits: Limits,
+    rest: &'a [u8],
+) -> Option<(Name, &'a [u8])>
+    ensures { IfSome result (λ found. table_in limits (Some rest.now) ≡ Ok (found.0, found.1.now)) }
 {
     let (word, more) = cut(rest);
     let Some(text) = more else {
         return None;
     };
-    match names.read(alloc, word) {
+    match names.read(alloc, limits, word) {
         Ok(Some(name)) => Some((name, text)),
         _ => None,
     }
@@ -94,9 +99,10 @@ pub fn two_images(alloc: Global, text: &[u8]) -> Result<(Row, Row), LineFault>
 pub fn table_at<'a>(
     names: &mut Names,
     alloc: Global,
+    limits: Limits,
     rest: Option<&'a [u8]>,
 ) -> Result<(Name, &'a [u8]), LineFault>
-    ensures { Finds (λ r. (r.0, r.1.now)) result (table_in (option_map (λ r. r.now) rest.entry)) }
+    ensures { Finds (λ r. (r.0, r.1.now)) result (table_in limits (option_map (λ r. r.now) rest.entry)) }
 {
     let Some(text) = rest else {
         return Err(LineFault::Wrong(Cause::Body));
@@ -105,7 +111,7 @@ pub fn table_at<'a>(
     let Some(text) = more else {
         return Err(LineFault::Wrong(Cause::Body));
     };
-    match names.read(alloc, word)? {
+    match names.read(alloc, limits, word)? {
         Some(name) => Ok((name, text)),
         None => Err(LineFault::Wrong(Cause::Body)),
     }

@@ -1,12 +1,28 @@
 //! The lines of a journal: which word is due where.
 ghost use Rattle.std.specs.Prelude.{◌≡◌};
 ghost use Rattle.txn_journal.specs.Lines.{keyword_of};
+ghost use Rattle.txn_journal.specs.Versions.{limits_of};
+
+use rows::Limits;
 
 /// A version of the format.
 #[derive(Clone, Copy, Debug, PartialEq, Eq)]
 pub enum Version {
     One,
     Two,
+    Three,
+}
+
+impl Version {
+    /// The limits of its texts.
+    pub fn limits(self) -> Limits
+        ensures { result ≡ limits_of self }
+    {
+        match self {
+            Version::One | Version::Two => Limits::Narrow,
+            Version::Three => Limits::Wide,
+        }
+    }
 }
 
 /// Where in a journal the next line is.

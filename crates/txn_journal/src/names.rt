@@ -1,54 +1,57 @@
 //! Names, each allocated once.
-ghost use Rattle.std.specs.Prelude.{◌≡◌, ◌<◌, ◌≤◌, true, Some, IfOk, IfErr, IfSome, length};
-ghost use Rattle.rows.specs.Names.{is_short_name};
+ghost use Rattle.std.specs.Prelude.{◌≡◌, ◌<◌, ◌≤◌, true, false, Some, Err, OnOk, IfOk, IfErr, IfSome, length};
+ghost use Rattle.std.specs.String.{string_bytes};
+ghost use Rattle.txn_journal.specs.Versions.{is_named};
 ghost use Rattle.txn_journal.specs.Words.{name_of};
 
-use rows::{Name, NameFault};
+use rows::{Limits, Name, NameFault};
 use std::alloc::{AllocError, Global};
-use std::marker::Model;
 
-/// How many names are kept: as many as a schema may have tables.
+/// How many names are kept: as many as a schema of versions 1 and 2 may have tables. Our own rule.
 const KEPT: usize = 256;
 
-/// A name of versions 1 and 2.
+/// A name of texts with these limits.
 #[derive(Drop)]
-struct ShortName {
+struct KeptName {
     name: Name,
-}
-
-impl Model for ShortName {
-    ghost use Rattle.std.specs.Prelude.{◌≡◌, ℕ, true, List};
-    ghost use Rattle.rows.specs.Names.{is_short_name};
-
-    ghost Value = { List ℕ };
-
-    ghost view = { λ n. n.name };
-
-    ghost invariant = { λ n. is_short_name n.name ≡ true };
+    limits: Limits,
+    ghost named: { is_named limits name ≡ true },
 }
 
 /// Names that were read, in order. A name that is kept is shared, and not allocated again.
 #[derive(Drop)]
 pub struct Names {
-    kept: Vec<ShortName>,
+    kept: Vec<KeptName>,
     /// The place of the name that was read last: a guess.
     last: usize,
 }
 
-fn new_name(alloc: Global, word: &[u8]) -> Result<Option<Name>, AllocError>
-    ensures { IfOk result (λ found. found ≡ name_of word.now) }
+/// The name that a text is, by these limits.
+fn named(limits: Limits, text: String) -> Result<Name, NameFault>
+    ensures ok { IfOk result (λ name. name ≡ string_bytes text) }
+    ensures named { OnOk result (is_named limits (string_bytes text) ≡ true) }
+    ensures refused { result ≡ Err NameFault.NotAName → is_named limits (string_bytes text) ≡ false }
+{
+    match limits {
+        Limits::Narrow => Name::short(text),
+        Limits::Wide => Name::new(text),
+    }
+}
+
+fn new_name(alloc: Global, limits: Limits, word: &[u8]) -> Result<Option<Name>, AllocError>
+    ensures { IfOk result (λ found. found ≡ name_of limits word.now) }
 {
     let Ok(text) = std::str::from_utf8(word) else {
         return Ok(None);
     };
-    match Name::short(String::from_str(alloc, text)?) {
+    match named(limits, String::from_str(alloc, text)?) {
         Ok(name) => Ok(Some(name)),
         Err(NameFault::NotAName) => Ok(None),
         Err(NameFault::Memory) => Err(AllocError),
     }
 }
 
-fn place_of(names: &[ShortName], word: &[u8]) -> Result<usize, usize>
+fn place_of(names: &[KeptName], word: &[u8]) -> Result<usize, usize>
     ensures found { IfOk result (λ i. i < length names.now) }
     ensures place { IfErr result (λ i. i ≤ length names.now) }
 {
@@ -56,12 +59,12 @@ fn place_of(names: &[ShortName], word: &[u8]) -> Result<usize, usize>
 }
 
 /// The name at a place, if the word is that name.
-fn name_at<'a>(names: &'a [ShortName], place: usize, word: &[u8]) -> Option<&'a Name>
-    ensures { IfSome result (λ name. name_of word.now ≡ Some name.now) }
+fn name_at<'a>(names: &'a [KeptName], place: usize, limits: Limits, word: &[u8]) -> Option<&'a Name>
+    ensures { IfSome result (λ name. name_of limits word.now ≡ Some name.now) }
 {
-    let name = &names.get(place)?.name;
-    if name.as_str().as_bytes() == word {
-        Some(name)
+    let kept = names.get(place)?;
+    if kept.limits == limits && kept.name.as_str().as_bytes() == word {
+        Some(&kept.name)
     } else {
         None
     }
@@ -76,36 +79,41 @@ impl Names {
         }
     }
 
-    /// The name that the word is, shared with the one that was read before.
-    pub fn read(&mut self, alloc: Global, word: &[u8]) -> Result<Option<Name>, AllocError>
-        ensures { IfOk result (λ found. found ≡ name_of word.now) }
+    /// The name that the word is by these limits, shared with the one that was read before.
+    pub fn read(
+        &mut self,
+        alloc: Global,
+        limits: Limits,
+        word: &[u8],
+    ) -> Result<Option<Name>, AllocError>
+        ensures { IfOk result (λ found. found ≡ name_of limits word.now) }
     {
-        if let Some(name) = name_at(&self.kept, self.last, word) {
+        if let Some(name) = name_at(&self.kept, self.last, limits, word) {
             return Ok(Some(name.clone()?));
         }
         match place_of(&self.kept, word) {
             Ok(place) => {
                 self.last = place;
-                if let Some(name) = name_at(&self.kept, place, word) {
+                if let Some(name) = name_at(&self.kept, place, limits, word) {
                     return Ok(Some(name.clone()?));
                 }
-                new_name(alloc, word)
+                new_name(alloc, limits, word)
             }
             Err(place) => {
-                let found = new_name(alloc, word)?;
+                let found = new_name(alloc, limits, word)?;
                 if let Some(name) = &found {
-                    self.keep(place, name.clone()?)?;
+                    self.keep(place, limits, name.clone()?)?;
                 }
                 Ok(found)
             }
         }
     }
 
-    fn keep(&mut self, place: usize, name: Name) -> Result<(), AllocError>
-        requires { is_short_name name ≡ true }
+    fn keep(&mut self, place: usize, limits: Limits, name: Name) -> Result<(), AllocError>
+        requires { is_named limits name ≡ true }
     {
         if self.kept.len() < KEPT && place <= self.kept.len() {
-            self.kept.insert(place, ShortName { name })?;
+            self.kept.insert(place, KeptName { name, limits })?;
         }
         Ok(())
     }

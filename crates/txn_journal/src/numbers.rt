@@ -238,7 +238,7 @@ fn beginning_text(
                 stamp: Some(0),
             })
         }
-        Version::Two => {
+        Version::Two | Version::Three => {
             let (word, rest) = cut(text);
             let gtid = gtid_in(alloc, near, word)?;
             let numbers = numbers_in(rest)?;

@@ -5,8 +5,9 @@ ghost use Rattle.txn_journal.specs.ChangeLines.{change_at, change_in, HasChange}
 ghost use Rattle.txn_journal.specs.EntryLines.{BeginsWithGtid, BeginsWithChanges, IsEntryText};
 ghost use Rattle.txn_journal.specs.Stream.{Finds};
 ghost use Rattle.txn_journal.specs.declared.lines.Keyword.TheVariants as keywords;
+ghost use Rattle.rows.specs.declared.limits.Limits.TheVariants.{Narrow};
 
-use crate::draft::{MAX_CHANGES, take_changes};
+use crate::draft::take_changes;
 use crate::fault::{Cause, LineFault};
 use crate::feed::cut_line;
 use crate::images::{image, table_at, two_images};
@@ -25,7 +26,7 @@ pub struct ParsedLine<'a> {
     pub line: &'a [u8],
     pub change: Option<Change>,
     pub ghost whole: { IsOneLine line.now },
-    pub ghost written: { HasChange line.now change },
+    pub ghost written: { HasChange Narrow line.now change },
 }
 
 /// The lines of a whole entry of version 1, and what they write.
@@ -73,27 +74,27 @@ impl<'a> Model for ParsedLines<'a> {
 
 #[tactic(auto, unfolding(crate::specs::ChangeLines::change_at))]
 fn insert_in(names: &mut Names, alloc: Global, rest: &[u8]) -> Result<Change, LineFault>
-    ensures { Finds (λ c. c) result (change_at keywords.Ins (Some rest.now)) }
+    ensures { Finds (λ c. c) result (change_at Narrow keywords.Ins (Some rest.now)) }
 {
-    let (table, text) = table_at(names, alloc, Some(rest))?;
+    let (table, text) = table_at(names, alloc, Limits::Narrow, Some(rest))?;
     let after = image(alloc, text)?;
     Ok(Change::Insert { table, after })
 }
 
 #[tactic(auto, unfolding(crate::specs::ChangeLines::change_at))]
 fn delete_in(names: &mut Names, alloc: Global, rest: &[u8]) -> Result<Change, LineFault>
-    ensures { Finds (λ c. c) result (change_at keywords.Del (Some rest.now)) }
+    ensures { Finds (λ c. c) result (change_at Narrow keywords.Del (Some rest.now)) }
 {
-    let (table, text) = table_at(names, alloc, Some(rest))?;
+    let (table, text) = table_at(names, alloc, Limits::Narrow, Some(rest))?;
     let before = image(alloc, text)?;
     Ok(Change::Delete { table, before })
 }
 
 #[tactic(auto, unfolding(crate::specs::ChangeLines::change_at))]
 fn update_in(names: &mut Names, alloc: Global, rest: &[u8]) -> Result<Change, LineFault>
-    ensures { Finds (λ c. c) result (change_at keywords.Upd (Some rest.now)) }
+    ensures { Finds (λ c. c) result (change_at Narrow keywords.Upd (Some rest.now)) }
 {
-    let (table, text) = table_at(names, alloc, Some(rest))?;
+    let (table, text) = table_at(names, alloc, Limits::Narrow, Some(rest))?;
     let (before, after) = two_images(alloc, text)?;
     Ok(Change::Update {
         table,
@@ -105,7 +106,7 @@ fn update_in(names: &mut Names, alloc: Global, rest: &[u8]) -> Result<Change, Li
 /// The change that a line writes, or a fault if it writes none.
 #[tactic(auto, unfolding(crate::specs::ChangeLines::change_in))]
 fn read_change(names: &mut Names, alloc: Global, line: &[u8]) -> Result<Change, LineFault>
-    ensures { IfOk result (λ change. change_in line.now ≡ Ok change) }
+    ensures { IfOk result (λ change. change_in Narrow line.now ≡ Ok change) }
 {
     match line {
         [b'i', b'n', b's', b' ', rest @ ..] => insert_in(names, alloc, rest),
@@ -117,7 +118,7 @@ fn read_change(names: &mut Names, alloc: Global, line: &[u8]) -> Result<Change, 
 
 /// The change that a line writes, if it writes one.
 fn change_of(names: &mut Names, alloc: Global, line: &[u8]) -> Result<Option<Change>, AllocError>
-    ensures { IfOk result (HasChange line.now) }
+    ensures { IfOk result (HasChange Narrow line.now) }
 {
     match read_change(names, alloc, line) {
         Ok(change) => Ok(Some(change)),
@@ -160,7 +161,9 @@ fn changes_at<'a>(
         let Ok(change) = read_change(names, alloc, line) else {
             return None;
         };
-        if changes.len() >= MAX_CHANGES || !is_change_writable(&change, Limits::Narrow) {
+        if changes.len() >= Limits::Narrow.changes()
+            || !is_change_writable(&change, Limits::Narrow)
+        {
             return None;
         }
         let Ok(()) = changes.push(change) else {

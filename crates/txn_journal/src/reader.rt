@@ -104,7 +104,7 @@ impl Reader {
     ghost use Rattle.txn_journal.specs.Timestamped.{closing_timestamped};
     ghost use Rattle.txn_journal.specs.Readers.{reading};
 
-    /// Before the first byte of a journal of either version.
+    /// Before the first byte of a journal of any version.
     pub fn start(alloc: Global) -> Reader
         ensures { reading result ≡ before_first }
     {

@@ -7,8 +7,8 @@ ghost use Rattle.row_images.specs.Words.{is_count};
 ghost use Rattle.row_images.specs.Parts.{before, behind, parts_of};
 ghost use Rattle.txn_journal.specs.Stream.{Finds, TakesPart};
 ghost use Rattle.txn_journal.specs.Splits.{are_new_to, are_columns, is_columns_text};
-ghost use Rattle.txn_journal.specs.Shapes.{uniques_from, is_head, shape_in, width_of, numbers_from, columns_in, keys_from, table_of, after_fault, with_table, added_table};
-ghost use Rattle.txn_journal.specs.Shaped.{shape};
+ghost use Rattle.txn_journal.specs.Shapes.{hides, is_last_pair, hidden_word, behind_from, is_head, shape_in, width_of, hidden_of, numbers_from, columns_in, keys_from, table_of, after_fault, with_table, added_table};
+ghost use Rattle.txn_journal.specs.Shaped.{shape, behind_shape};
 
 use crate::fault::{Cause, LineFault};
 use crate::names::Names;
@@ -18,15 +18,6 @@ use rows::{ColumnLists, Columns, Limits, Name, Schema, SchemaFault, Table, Table
 use std::alloc::{AllocError, Global};
 use std::collections::BTreeSet;
 
-/// The greatest number of columns of a table.
-const MAX_COLUMNS: u64 = 64;
-
-/// The greatest number of unique keys of a table.
-const MAX_UNIQUES: usize = 8;
-
-/// The greatest number of tables.
-const MAX_TABLES: usize = 256;
-
 /// The content of a table's line, before its numbers are read.
 #[derive(Drop)]
 pub struct TableWords<'a> {
@@ -34,6 +25,14 @@ pub struct TableWords<'a> {
     columns: &'a [u8],
     primary: &'a [u8],
     uniques: Vec<&'a [u8]>,
+    hidden: Option<&'a [u8]>,
+}
+
+/// What follows the primary key of a table's line.
+#[derive(Drop)]
+pub struct BehindWords<'a> {
+    uniques: Vec<&'a [u8]>,
+    hidden: Option<&'a [u8]>,
 }
 
 /// What comes before the first separator, and what follows it.
@@ -111,21 +110,57 @@ fn is_unique(alloc: Global, key: &[u8], columns: &[u8]) -> Result<bool, AllocErr
     is_columns(alloc, columns)
 }
 
-/// The columns of each unique key.
-#[tactic(auto, unfolding(crate::specs::Shapes::uniques_from))]
-fn uniques_in<'a>(alloc: Global, words: &[&'a [u8]]) -> Result<Vec<&'a [u8]>, LineFault>
-    ensures { Finds (λ us. map (λ u. u.now) us.items) result (uniques_from [] (map (λ w. w.now) words.now)) }
+/// Whether a word says how many columns are hidden, by these limits.
+fn hides(limits: Limits, count: &[u8]) -> bool
+    ensures { result ≡ hides limits count.now }
+{
+    match limits {
+        Limits::Narrow => false,
+        Limits::Wide => is_count(count),
+    }
+}
+
+/// How many columns are hidden, if these two words say it and none comes after them.
+fn last_pair<'a>(
+    limits: Limits,
+    key: &[u8],
+    count: &'a [u8],
+    after: &[&[u8]],
+) -> Result<Option<&'a [u8]>, LineFault>
+    ensures { Finds (λ found. option_map (λ c. c.now) found) result (hidden_word (is_last_pair limits key.now count.now (map (λ w. w.now) after.now)) count.now) }
+{
+    if after.is_empty() && key == b"hidden".as_slice() && hides(limits, count) {
+        Ok(Some(count))
+    } else {
+        Err(LineFault::Wrong(Cause::Body))
+    }
+}
+
+/// The columns of each unique key, and how many columns are hidden.
+#[tactic(auto, unfolding(crate::specs::Shapes::behind_from))]
+fn behind_in<'a>(
+    alloc: Global,
+    limits: Limits,
+    words: &[&'a [u8]],
+) -> Result<BehindWords<'a>, LineFault>
+    ensures { Finds (λ b. behind_shape b) result (behind_from limits [] (map (λ w. w.now) words.now)) }
 {
     let mut uniques = Vec::new(alloc);
     let mut left = words;
     'words: loop {
         match left {
-            [] => return Ok(uniques),
-            [key, columns, after @ ..] => {
-                if !is_unique(alloc, key, columns)? {
-                    return Err(LineFault::Wrong(Cause::Body));
+            [] => {
+                return Ok(BehindWords {
+                    uniques,
+                    hidden: None,
+                });
+            }
+            [key, word, after @ ..] => {
+                if !is_unique(alloc, key, word)? {
+                    let hidden = last_pair(limits, key, word, after)?;
+                    return Ok(BehindWords { uniques, hidden });
                 }
-                uniques.push(*columns)?;
+                uniques.push(*word)?;
                 left = after;
             }
             _ => return Err(LineFault::Wrong(Cause::Body)),
@@ -147,34 +182,36 @@ fn is_head(alloc: Global, columns: &[u8], key: &[u8], primary: &[u8]) -> Result<
 #[tactic(auto, unfolding(crate::specs::Shapes::shape_in, crate::specs::Shapes::shape_of))]
 fn table_words<'a>(
     alloc: Global,
+    limits: Limits,
     names: &mut Names,
     text: &'a [u8],
 ) -> Result<TableWords<'a>, LineFault>
-    ensures { Finds (λ w. shape w) result (shape_in text.now) }
+    ensures { Finds (λ w. shape w) result (shape_in limits text.now) }
 {
     let words = parts(alloc, b' ', text)?;
     let [name, columns, key, primary, rest @ ..] = words.as_slice() else {
         return Err(LineFault::Wrong(Cause::Body));
     };
-    let Some(name) = names.read(alloc, name)? else {
+    let Some(name) = names.read(alloc, limits, name)? else {
         return Err(LineFault::Wrong(Cause::Body));
     };
     if !is_head(alloc, columns, key, primary)? {
         return Err(LineFault::Wrong(Cause::Body));
     }
-    let uniques = uniques_in(alloc, rest)?;
+    let behind = behind_in(alloc, limits, rest)?;
     Ok(TableWords {
         name,
         columns: *columns,
         primary: *primary,
-        uniques,
+        uniques: behind.uniques,
+        hidden: behind.hidden,
     })
 }
 
 /// The numbers of columns, if each is below the limit.
 #[tactic(auto, unfolding(crate::specs::Shapes::numbers_from))]
 fn numbers_below(alloc: Global, limit: u64, words: &[&[u8]]) -> Result<Vec<u32>, LineFault>
-    requires { limit ≤ 64 }
+    requires { limit ≤ 4096 }
     ensures { Finds (λ c. c.items) result (numbers_from limit [] (map (λ w. w.now) words.now)) }
 {
     let mut columns = Vec::new(alloc);
@@ -190,7 +227,7 @@ fn numbers_below(alloc: Global, limit: u64, words: &[&[u8]]) -> Result<Vec<u32>,
 /// The columns that a text names, if each is below the limit.
 #[tactic(auto, unfolding(crate::specs::Shapes::columns_in))]
 fn columns_below(alloc: Global, limit: u64, text: &[u8]) -> Result<Columns, LineFault>
-    requires { limit ≤ 64 }
+    requires { limit ≤ 4096 }
     ensures { Finds (λ c. c) result (columns_in limit text.now) }
 {
     let words = parts(alloc, b',', text)?;
@@ -201,7 +238,7 @@ fn columns_below(alloc: Global, limit: u64, text: &[u8]) -> Result<Columns, Line
 /// The columns of each key, if each is below the limit.
 #[tactic(auto, unfolding(crate::specs::Shapes::keys_from))]
 fn lists_below(alloc: Global, limit: u64, texts: &[&[u8]]) -> Result<Vec<Columns>, LineFault>
-    requires { limit ≤ 64 }
+    requires { limit ≤ 4096 }
     ensures { Finds (λ k. k.items) result (keys_from limit [] (map (λ t. t.now) texts.now)) }
 {
     let mut keys = Vec::new(alloc);
@@ -212,7 +249,7 @@ fn lists_below(alloc: Global, limit: u64, texts: &[&[u8]]) -> Result<Vec<Columns
 }
 
 fn keys_below(alloc: Global, limit: u64, texts: &[&[u8]]) -> Result<ColumnLists, LineFault>
-    requires { limit ≤ 64 }
+    requires { limit ≤ 4096 }
     ensures { Finds (λ c. c) result (keys_from limit [] (map (λ t. t.now) texts.now)) }
 {
     let keys = lists_below(alloc, limit, texts)?;
@@ -222,24 +259,46 @@ fn keys_below(alloc: Global, limit: u64, texts: &[&[u8]]) -> Result<ColumnLists,
 impl TableWords<'_> {
     /// How many columns the table has, if that is within the limits.
     #[tactic(auto, unfolding(crate::specs::Shapes::width_of))]
-    fn columns(&self) -> Result<u64, LineFault>
-        ensures found { Finds (λ n. n) result (width_of (shape self.now)) }
-        ensures low { IfOk result (λ columns. columns ≤ 64) }
+    fn columns(&self, limits: Limits) -> Result<u64, LineFault>
+        ensures found { Finds (λ n. n) result (width_of limits (shape self.now)) }
+        ensures low { IfOk result (λ columns. columns ≤ 4096) }
     {
-        if self.uniques.len() > MAX_UNIQUES {
+        if self.uniques.len() > limits.uniques() {
             return Err(LineFault::Wrong(Cause::Limit));
         }
         match count(self.columns) {
-            Some(columns) if 1 <= columns && columns <= MAX_COLUMNS => Ok(columns),
+            Some(columns) if 1 <= columns && columns <= u64::from(limits.columns()) => Ok(columns),
             _ => Err(LineFault::Wrong(Cause::Limit)),
         }
     }
 
-    /// The table of these words, with this number of columns.
+    /// How many of this many columns are hidden, if that is within the limits.
+    fn hidden(&self, columns: u64) -> Result<u64, LineFault>
+        requires { columns ≤ 4096 }
+        ensures found { Finds (λ n. n) result (hidden_of columns (shape self.now).hidden) }
+        ensures low { IfOk result (λ hidden. hidden ≤ 4096) }
+    {
+        let Some(word) = self.hidden else {
+            return Ok(0);
+        };
+        match count(word) {
+            Some(hidden) if 1 <= hidden && hidden < columns => Ok(hidden),
+            _ => Err(LineFault::Wrong(Cause::Limit)),
+        }
+    }
+
+    /// The table of these words, with these numbers of columns and of hidden ones.
     #[tactic(auto, unfolding(crate::specs::Shapes::table_of))]
-    fn table(&self, alloc: Global, columns: u64) -> Result<Table, LineFault>
-        requires { columns ≤ 64 }
-        ensures { Finds (λ t. t) result (table_of (shape self.now) columns) }
+    fn table(
+        &self,
+        alloc: Global,
+        limits: Limits,
+        columns: u64,
+        hidden: u64,
+    ) -> Result<Table, LineFault>
+        requires few { columns ≤ 4096 }
+        requires hidden { hidden ≤ 4096 }
+        ensures { Finds (λ t. t) result (table_of limits (shape self.now) columns hidden) }
     {
         let primary = columns_below(alloc, columns, self.primary)?;
         let uniques = keys_below(alloc, columns, &self.uniques)?;
@@ -248,8 +307,8 @@ impl TableWords<'_> {
             columns: columns as u32,
             primary,
             uniques,
-            hidden: 0,
-            limits: Limits::Narrow,
+            hidden: hidden as u32,
+            limits,
         })
     }
 }
@@ -269,14 +328,20 @@ fn push_table(schema: &mut Schema, table: Table) -> Result<(), LineFault>
 
 /// Appends the table of these words.
 #[tactic(auto, unfolding(crate::specs::Shapes::with_table))]
-fn add_words(alloc: Global, schema: &mut Schema, words: &TableWords) -> Result<(), LineFault>
-    ensures { TakesPart result (with_table schema.old (shape words.now)) schema.new }
+fn add_words(
+    alloc: Global,
+    limits: Limits,
+    schema: &mut Schema,
+    words: &TableWords,
+) -> Result<(), LineFault>
+    ensures { TakesPart result (with_table limits schema.old (shape words.now)) schema.new }
 {
-    let columns = words.columns()?;
-    if schema.tables().len() >= MAX_TABLES {
+    let columns = words.columns(limits)?;
+    let hidden = words.hidden(columns)?;
+    if schema.tables().len() >= limits.tables() {
         return Err(LineFault::Wrong(Cause::Limit));
     }
-    let table = words.table(alloc, columns)?;
+    let table = words.table(alloc, limits, columns, hidden)?;
     push_table(schema, table)
 }
 
@@ -284,12 +349,13 @@ fn add_words(alloc: Global, schema: &mut Schema, words: &TableWords) -> Result<(
 #[tactic(auto, unfolding(crate::specs::Shapes::added_table))]
 pub fn add_table(
     alloc: Global,
+    limits: Limits,
     names: &mut Names,
     schema: &mut Schema,
     text: &[u8],
 ) -> Result<(), LineFault>
-    ensures { TakesPart result (added_table schema.old text.now) schema.new }
+    ensures { TakesPart result (added_table limits schema.old text.now) schema.new }
 {
-    let words = table_words(alloc, names, text)?;
-    add_words(alloc, schema, &words)
+    let words = table_words(alloc, limits, names, text)?;
+    add_words(alloc, limits, schema, &words)
 }

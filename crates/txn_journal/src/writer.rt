@@ -5,8 +5,9 @@ ghost use Rattle.txn_journal.specs.WrittenSets.{set_text};
 ghost use Rattle.txn_journal.specs.Spelling.{Header, Previous, Begin, Makes, image_text, change_text, numbers_text, line_text, ended_line, lines_text, numbers_of, entry_lines, spelling, spelling_as, FitsText, Writes};
 ghost use Rattle.row_images.specs.Images.{values_text};
 ghost use Rattle.txn_journal.specs.Stamps.{right_stamps};
-ghost use Rattle.txn_journal.specs.Timestamped.{WritesTimestamped, with_timestamps};
+ghost use Rattle.txn_journal.specs.Timestamped.{WritesIfFits};
 ghost use Rattle.txn_journal.specs.Texts.{changes_text, body_text, entries_text, stamped_text, opening_text, text_around};
+ghost use Rattle.rows.specs.declared.limits.Limits.TheVariants.{Narrow};
 ghost use Rattle.txn_journal.specs.declared.lines.Version.TheVariants.{One, Two};
 
 use crate::fitting::journal_fits;
@@ -99,12 +100,22 @@ pub(crate) fn write_next_number(out: &mut String, number: u64) -> Result<(), All
     write_number(out, number)
 }
 
-/// Appends the last_committed of the entry at a place, and the place, which is its sequence number.
-fn write_numbers(out: &mut String, stamp: u64, place: u64) -> Result<(), AllocError>
-    ensures { OnOk result (string_bytes out.new ≡ string_bytes out.old ++ numbers_text (numbers_of Two place stamp)) }
+/// Appends the last_committed of the entry at a place, and the place, which is its sequence number, where the version writes them.
+fn write_numbers(
+    out: &mut String,
+    version: Version,
+    stamp: u64,
+    place: u64,
+) -> Result<(), AllocError>
+    ensures { OnOk result (string_bytes out.new ≡ string_bytes out.old ++ numbers_text (numbers_of version place stamp)) }
 {
-    write_next_number(out, stamp)?;
-    write_next_number(out, place)
+    match version {
+        Version::One => Ok(()),
+        Version::Two | Version::Three => {
+            write_next_number(out, stamp)?;
+            write_next_number(out, place)
+        }
+    }
 }
 
 /// Appends the text of an entry from the line feed of its first line on.
@@ -129,14 +140,15 @@ fn write_entry(out: &mut String, entry: &Entry) -> Result<(), AllocError>
 #[tactic(auto, using(crate::proofs::WriteLemmas::stamped_entry_appended))]
 fn write_stamped_entry(
     out: &mut String,
+    version: Version,
     stamp: u64,
     place: u64,
     entry: &Entry,
 ) -> Result<(), AllocError>
-    ensures { OnOk result (string_bytes out.new ≡ string_bytes out.old ++ lines_text (entry_lines (numbers_of Two place stamp) entry.now)) }
+    ensures { OnOk result (string_bytes out.new ≡ string_bytes out.old ++ lines_text (entry_lines (numbers_of version place stamp) entry.now)) }
 {
     write_begin(out, entry.gtid)?;
-    write_numbers(out, stamp, place)?;
+    write_numbers(out, version, stamp, place)?;
     write_body(out, &entry.txn)
 }
 
@@ -153,14 +165,15 @@ fn write_entries(out: &mut String, entries: &[Entry]) -> Result<(), AllocError>
 /// Appends the lines of entries, each with its last_committed.
 fn write_stamped_entries(
     out: &mut String,
+    version: Version,
     stamps: &[u64],
     entries: &[Entry],
 ) -> Result<(), AllocError>
     requires { length stamps.now ≡ length entries.now }
-    ensures { OnOk result (string_bytes out.new ≡ string_bytes out.old ++ stamped_text 1 stamps.now entries.now) }
+    ensures { OnOk result (string_bytes out.new ≡ string_bytes out.old ++ stamped_text version 1 stamps.now entries.now) }
 {
     for (i, entry) in entries.iter().enumerate() {
-        write_stamped_entry(out, stamps[i], i as u64 + 1, entry)?;
+        write_stamped_entry(out, version, stamps[i], i as u64 + 1, entry)?;
     }
     Ok(())
 }
@@ -193,6 +206,7 @@ fn write_header(out: &mut String, version: Version) -> Result<(), AllocError>
     match version {
         Version::One => out.push_str("journal 1\n"),
         Version::Two => out.push_str("journal 2\n"),
+        Version::Three => out.push_str("journal 3\n"),
     }
 }
 
@@ -230,64 +244,73 @@ fn write_parts(
 fn write_stamped_parts(
     alloc: Global,
     out: &mut String,
+    version: Version,
     previous: &GtidSet,
     stamps: &[u64],
     entries: &[Entry],
 ) -> Result<(), AllocError>
     requires { length stamps.now ≡ length entries.now }
-    ensures { OnOk result (string_bytes out.new ≡ string_bytes out.old ++ text_around Two previous.now (stamped_text 1 stamps.now entries.now)) }
+    ensures { OnOk result (string_bytes out.new ≡ string_bytes out.old ++ text_around version previous.now (stamped_text version 1 stamps.now entries.now)) }
 {
-    write_opening(alloc, out, Version::Two, previous)?;
-    write_stamped_entries(out, stamps, entries)?;
+    write_opening(alloc, out, version, previous)?;
+    write_stamped_entries(out, version, stamps, entries)?;
     out.push_str("close\n")
-}
-
-#[tactic(auto, using(crate::proofs::WriteLemmas::journal_text))]
-fn write_journal(alloc: Global, journal: &Journal) -> Result<String, AllocError>
-    ensures { IfOk result (λ text. string_bytes text ≡ spelling journal.now) }
-{
-    let mut out = String::new(alloc);
-    write_parts(alloc, &mut out, journal.previous(), journal.entries())?;
-    Ok(out)
 }
 
 /// The one text of a journal by version 1 of the format: its lines, each ended by one line feed.
 pub fn encode(alloc: Global, journal: &Journal) -> Result<Vec<u8>, AllocError>
     ensures spelled { IfOk result (λ bytes. bytes.items ≡ spelling journal.now) }
     // It is a text by the grammar, and read back as this journal, if it has no more than a text may have.
-    ensures writes { FitsText journal.now → IfOk result (λ bytes. Writes bytes.items journal.now) }
+    ensures writes { FitsText Narrow journal.now → IfOk result (λ bytes. Writes bytes.items journal.now) }
 {
     journal_fits(journal);
-    let text = write_journal(alloc, journal)?;
-    Ok(text.into_bytes())
+    let mut out = String::new(alloc);
+    write_unstamped(alloc, &mut out, journal)?;
+    Ok(out.into_bytes())
 }
 
-/// Appends the text of a journal by version 2 of the format, with these as the last_committed of its entries.
+/// Appends the text of a journal, with these as the last_committed of its entries.
 #[tactic(auto, using(crate::proofs::WriteLemmas::stamped_journal_text))]
 fn write_stamped(
     alloc: Global,
     out: &mut String,
+    version: Version,
     stamps: &[u64],
     journal: &Journal,
 ) -> Result<(), AllocError>
     requires { length stamps.now ≡ length journal.now.entries }
-    ensures { OnOk result (string_bytes out.new ≡ string_bytes out.old ++ spelling_as Two stamps.now journal.now) }
+    ensures { OnOk result (string_bytes out.new ≡ string_bytes out.old ++ spelling_as version stamps.now journal.now) }
 {
-    write_stamped_parts(alloc, out, journal.previous(), stamps, journal.entries())
+    let (previous, entries) = (journal.previous(), journal.entries());
+    write_stamped_parts(alloc, out, version, previous, stamps, entries)
 }
 
-/// Appends the text of a journal by version 2 of the format, whose entries change tables of this schema.
+/// Appends the text of a journal by version 1 of the format.
+#[tactic(auto, using(crate::proofs::WriteLemmas::journal_text))]
+fn write_unstamped(alloc: Global, out: &mut String, journal: &Journal) -> Result<(), AllocError>
+    ensures { OnOk result (string_bytes out.new ≡ string_bytes out.old ++ spelling journal.now) }
+{
+    write_parts(alloc, out, journal.previous(), journal.entries())
+}
+
+/// Appends the text of a journal by a version of the format, whose entries change tables of this schema.
 #[tactic(auto, using(logical_timestamps::proofs::Timestamps::each_last_committed_length))]
-pub(crate) fn write_journal_v2(
+pub(crate) fn write_journal_by(
     alloc: Global,
     out: &mut String,
+    version: Version,
     schema: &Schema,
     journal: &Journal,
 ) -> Result<(), AllocError>
-    ensures { OnOk result (string_bytes out.new ≡ string_bytes out.old ++ spelling_as Two (right_stamps Two schema.now journal.now.entries) journal.now) }
+    ensures { OnOk result (string_bytes out.new ≡ string_bytes out.old ++ spelling_as version (right_stamps version schema.now journal.now.entries) journal.now) }
 {
-    let stamps = last_committed_of(alloc, schema, journal)?;
-    write_stamped(alloc, out, stamps.as_slice(), journal)
+    match version {
+        Version::One => write_unstamped(alloc, out, journal),
+        Version::Two | Version::Three => {
+            let stamps = last_committed_of(alloc, schema, journal)?;
+            write_stamped(alloc, out, version, stamps.as_slice(), journal)
+        }
+    }
 }
 
 /// The one text of a journal by version 2 of the format, whose entries change tables of this schema. Each entry has
@@ -295,10 +318,10 @@ pub(crate) fn write_journal_v2(
 pub fn encode_v2(alloc: Global, schema: &Schema, journal: &Journal) -> Result<Vec<u8>, AllocError>
     ensures spelled { IfOk result (λ bytes. bytes.items ≡ spelling_as Two (right_stamps Two schema.now journal.now.entries) journal.now) }
     // It is a text by the grammar, and read back as this journal with these numbers, if it has no more than a text may have.
-    ensures writes { FitsText journal.now → IfOk result (λ b. WritesTimestamped b.items (with_timestamps schema.now journal.now)) }
+    ensures writes { IfOk result (λ bytes. WritesIfFits bytes.items schema.now journal.now) }
 {
     journal_fits(journal);
     let mut out = String::new(alloc);
-    write_journal_v2(alloc, &mut out, schema, journal)?;
+    write_journal_by(alloc, &mut out, Version::Two, schema, journal)?;
     Ok(out.into_bytes())
 }

@@ -4,11 +4,11 @@ use crate::sources::TEXT;
 use crate::written::BUNDLE;
 use std::alloc::Global;
 use std::test::Fail;
-use txn_journal::{Bundle, BundleReader, encode_bundle_v2};
+use txn_journal::{Bundle, BundleReader, Version, encode_bundle};
 
 /// Whether a bundle is written by version 2 with these bytes.
 fn is_written(alloc: Global, bundle: &Bundle, want: &[u8]) -> bool {
-    match encode_bundle_v2(alloc, bundle) {
+    match encode_bundle(alloc, Version::Two, bundle) {
         Ok(bytes) => bytes.as_slice() == want,
         Err(_) => false,
     }

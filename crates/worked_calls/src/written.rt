@@ -3,7 +3,7 @@
 
 use crate::sources::bundle;
 use std::test::Fail;
-use txn_journal::{decode_v2, encode_bundle_v2, encode_v2, stamps};
+use txn_journal::{Version, decode_v2, encode_bundle, encode_v2, stamps};
 
 pub(crate) const BUNDLE: &str = concat!(
     "bundle 2\n",
@@ -58,7 +58,7 @@ const NUMBERED: &str = concat!(
 #[test]
 fn a_bundle_is_written(rt: HostRuntime) -> Result<(), Fail> {
     let alloc = rt.alloc();
-    let bytes = encode_bundle_v2(alloc, &bundle(alloc)?)?;
+    let bytes = encode_bundle(alloc, Version::Two, &bundle(alloc)?)?;
     assert!(rt; bytes.as_slice() == BUNDLE.as_bytes());
     Ok(())
 }

@@ -1,7 +1,8 @@
-use Rattle.std.proofs.Common.{◌≡◌, ◌++◌, take, string_bytes}
-use Rattle.std.specs.Prelude.{flat_map}
-use Rattle.gtid_report.specs.State.{row_line}
+use Rattle.std.proofs.Common.{◌≡◌, Some, ◌++◌, take, string_bytes}
+use Rattle.std.specs.Prelude.{IfSome}
+use Rattle.rows.specs.Keys.{find_table}
+use Rattle.gtid_report.specs.State.{rows_text}
 use Rattle.gtid_report.proofs.state.render_rows.Given as goal
 
 abbrev pub invariant-loop-row : goal.invariant-loop-row
-invariant-loop-row l = string_bytes l.out ≡ string_bytes l.fn.out ++ flat_map row_line (take l.row-index l.rows)
+invariant-loop-row l = (string_bytes l.out ≡ string_bytes l.fn.out ++ rows_text l.schema (take l.row-index l.rows)) × IfSome l.last (λ t. find_table t.now.name l.schema ≡ Some t.now)

@@ -10,7 +10,7 @@ use Rattle.txn_journal.proofs.laws.one_spelling.Goals as goal
 pub returns : goal.returns
 returns c = record {
   one = λ j ks ls a b x y. x.text ∙ ap (λ (stamps : List ℕ). spelling_as One stamps j) (none_stamped 1 ks j.entries x.stamps_fit ∙ sym (none_stamped 1 ls j.entries y.stamps_fit)) ∙ sym y.text;
-  two = λ j ls a b x y. x.text ∙ sym y.text;
+  each = λ v j ls a b x y. x.text ∙ sym y.text;
   journal = one_value journals (IsSoundAlone None) journal_laws;
   whole = one_value (written_journals None) (IsSoundAlone None) (written_laws None);
 }

@@ -19,6 +19,6 @@ lines-preserved c =
     record {
       within = h.within ++ line ∷ [];
       so_far = ended_more h.within line c.args.text.now c.lines.left.now c.in_ok-line.after.now h.so_far cut.parts;
-      lines = subst (λ (cs : List Change). AreChangeLines (h.within ++ line ∷ []) cs) (sym pushed) (one_change_more h.within c.lines.changes.items line c.in-Ok.change h.lines cut.whole c.in-Ok.ensures);
-      writable = ap (λ (cs : List Change). nat_le (length cs) 65536 && list_all (is_change_writable Narrow) cs) pushed ∙ writable_more c.lines.changes.items c.in-Ok.change h.writable few writes;
+      lines = subst (λ (cs : List Change). AreChangeLines Narrow (h.within ++ line ∷ []) cs) (sym pushed) (one_change_more h.within c.lines.changes.items line c.in-Ok.change h.lines cut.whole c.in-Ok.ensures);
+      writable = ap (λ (cs : List Change). nat_le (length cs) 65536 && list_all (is_change_writable Narrow) cs) pushed ∙ writable_more Narrow c.lines.changes.items c.in-Ok.change h.writable few writes;
     }

@@ -1,4 +1,5 @@
 use Rattle.std.proofs.Common.{◌≡◌, ℕ, List, ◌++◌, length}
+use Rattle.rows.specs.declared.limits.Limits.TheVariants.{Narrow}
 use Rattle.txn_journal.specs.EntryLines.{ended, AreChangeLines}
 use Rattle.txn_journal.specs.Kept.{AreWritable}
 use Rattle.txn_journal.proofs.parsed_lines.changes_at.Given as goal
@@ -7,8 +8,8 @@ abbrev pub invariant-lines : goal.invariant-lines
 invariant-lines l = record {
   within : List (List ℕ);
   so_far : l.fn.text ≡ ended within ++ l.left;
-  lines : AreChangeLines within l.changes.items;
-  writable : AreWritable l.changes.items;
+  lines : AreChangeLines Narrow within l.changes.items;
+  writable : AreWritable Narrow l.changes.items;
 }
 
 abbrev pub decreases-lines : goal.decreases-lines

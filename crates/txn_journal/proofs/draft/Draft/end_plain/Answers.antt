@@ -2,7 +2,8 @@ use Rattle.std.proofs.Common.{rules, refl, sym, ap, ◌∙◌, arith}
 use Rattle.txn_journal.specs.Machine.{Standing}
 use Rattle.txn_journal.proofs.Seen.{seen_joined, seen_more}
 use Rattle.journal.specs.declared.Entry.{Entry}
-use Rattle.journal.proofs.WritableLemmas.{widened}
+use Rattle.txn_journal.specs.Versions.{limits_of}
+use Rattle.txn_journal.proofs.SoundLines.{wide_entry}
 use Rattle.txn_journal.proofs.draft.Draft.end_plain.Goals as goal
 
 pub invariant_of-self-2 : goal.invariant_of-self-2
@@ -37,4 +38,4 @@ invariant_of-self-3 c =
 pub push-requires-clause-writable : goal.push-requires-clause-writable
 push-requires-clause-writable c =
     let entry : Entry = record { gtid = c.take_changes.new.self.gtid; txn = record { changes = c.in_ok-changes.changes } } in
-    widened entry (search rules)
+    wide_entry (limits_of c.args.self.now.version) entry (search rules)

@@ -2,7 +2,8 @@ use Rattle.std.proofs.Common.{rules, ◌≡◌, ◌≤◌, ◌+◌, ℕ, false, 
 use Rattle.std.specs.Prelude.{nat_le}
 use Rattle.txn_journal.proofs.Seen.{seen_pushed, seen_more}
 use Rattle.journal.specs.declared.Entry.{Entry}
-use Rattle.journal.proofs.WritableLemmas.{widened}
+use Rattle.rows.specs.declared.limits.Limits.TheVariants.{Narrow}
+use Rattle.txn_journal.proofs.SoundLines.{wide_entry}
 use Rattle.txn_journal.proofs.draft.Draft.join_whole.Goals as goal
 
 pub invariant_of-self-in-Break-1 : goal.invariant_of-self-in-Break-1
@@ -41,4 +42,4 @@ invariant_of-self-2 c =
 pub push-requires-clause-writable : goal.push-requires-clause-writable
 push-requires-clause-writable c =
     let entry : Entry = record { gtid = c.args.gtid; txn = record { changes = c.args.changes } } in
-    widened entry (search rules)
+    wide_entry Narrow entry (search rules)

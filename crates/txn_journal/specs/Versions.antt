@@ -1,0 +1,28 @@
+-- What a version of the formats has.
+use Rattle.std.specs.Prelude.{ℕ, Bool, true, false, List}
+use Rattle.rows.specs.Names.{is_name, is_short_name}
+use Rattle.rows.specs.declared.limits.Limits.{Limits}
+use Rattle.rows.specs.declared.limits.Limits.TheVariants.{Narrow, Wide}
+use Rattle.txn_journal.specs.declared.lines.Version.{Version}
+use Rattle.txn_journal.specs.declared.lines.Version.TheVariants.{One, Two, Three}
+
+-- its limits
+abbrev pub limits_of : Version → Limits
+limits_of One = Narrow
+limits_of Two = Narrow
+limits_of Three = Wide
+
+-- the last version with these limits
+abbrev pub newest : Limits → Version
+newest Narrow = Two
+newest Wide = Three
+
+-- version 1 has neither the numbers of entries nor a line of the opening set
+abbrev pub is_numbered : Version → Bool
+is_numbered One = false
+is_numbered _ = true
+
+-- the names of texts with these limits
+abbrev pub is_named : Limits → List ℕ → Bool
+is_named Narrow = is_short_name
+is_named Wide = is_name
