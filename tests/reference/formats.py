@@ -8,7 +8,7 @@ from functools import partial
 
 from .gtids import UUID_FORM, Gtid, GtidSet, SourcesFull, gtid_in, set_in
 from .rows import Change, Key, RowFault, Rows, Schema, Transaction, keys_of
-from .versions import COUNT_FORM, FORMATS, VERSION_3, VERSIONS, Format
+from .versions import ASSUMPTIONS, COUNT_FORM, FORMATS, VERSION_3, VERSIONS, Format
 from .words import Cause, LineFault, ask, ask_limits, change_in, place_in, reference_in, table_in
 
 MOST_CHANNELS = 256
@@ -85,10 +85,6 @@ class Bundle:
         """What its verdict rests on: its assumptions, and `references` where it has `fk` lines."""
         implied = {"references"} if self.references else set[str]()
         return sorted({*self.assumptions} | implied, key=assumption_order)
-
-
-# The words of assumptions, in the order of their lines.
-ASSUMPTIONS = ["executed", "checksums", "opening", "statements", "ignored", "references", "rows"]
 
 
 def assumption_order(assumption: str) -> tuple[int, str]:
@@ -301,9 +297,8 @@ class BundleDraft:
 
     def take_assumption(self, body: str | None) -> None:
         """Takes an `assume` line."""
-        word, _, rest = (body or "").partition(" ")
-        ask(word in ASSUMPTIONS)
-        words = rest.split(" ") if rest else []
+        word, *words = (body or "").split(" ")
+        ask(word in self.form.assumed)
         ask(len(words) == {"opening": 2, "statements": 2, "references": 0, "rows": 0}.get(word, 1))
         ask(all(map(VERSION_3.is_name, words[:1])))
         gtids = given_set(words[1]) if words[1:] else GtidSet()

@@ -12,7 +12,7 @@ from dataclasses import dataclass
 from random import Random
 
 from . import commands, random_scripts, scripts
-from .formats import VERSION_3, VERSIONS, Journal, bundle_lines, journal_lines, read_bundle
+from .formats import VERSIONS, Bundle, Journal, bundle_lines, journal_lines, read_bundle
 from .gtids import GtidSet
 from .histories import objection
 from .ordered import Failovers, OrderedAudit, is_borne_out
@@ -50,7 +50,7 @@ class Run:
         if self.program == "replica_script":
             return Ended(*scripts.run(self.given))
         output, status = commands.answer(self.words, lambda: self.given)
-        return Ended(output, status, "" if status < 2 else None)
+        return Ended(output, status, "" if status in (0, 1, 5) else None)
 
     def objection(self, _ended: Ended, _play: Callable[[str], str]) -> str | None:
         """What is wrong with what a program did beside that, or None. `replica_script` answers a script."""
@@ -139,21 +139,36 @@ def version2(chance: Random) -> list[Run]:
 
 
 def version3(chance: Random) -> list[Run]:
-    """A bundle of version 3, audited in all ways and applied; now and then with a fault."""
+    """A bundle of version 3, audited in all ways, applied and upgraded; now and then with a fault. Now and then one of version 2 is upgraded too,
+    and what comes of that audited."""
     maker = BundleMaker(chance)
     narrow = Failovers(chance).bundle() if maker.is_one_in(3) else maker.bundle(True)
     text = text_of(bundle_lines(Widener(chance).bundle(narrow), 3))
     if maker.is_one_in(3):
         text = TextBreaker(chance).texts(text)
-    upgrade_words = ["upgrade --to 3"] if VERSION_3.references else ["upgrade"]
-    return gtidrep(text, "audit", "audit --all", "audit --ordered", apply_words(chance), f"apply --ordered --workers {chance.choice([1, 2])}", *upgrade_words)
+    ways = ["audit", "audit --all", "audit --ordered", apply_words(chance), f"apply --ordered --workers {chance.choice([1, 2])}"]
+    runs = gtidrep(text, *ways, upgrade_words(chance))
+    return runs + upgrade_runs(chance, narrow) if maker.is_one_in(3) else runs
+
+
+def upgrade_words(chance: Random) -> str:
+    """The command `upgrade` to some version."""
+    return chance.choice(["upgrade", "upgrade --to 2", "upgrade --to 3"])
+
+
+def upgrade_runs(chance: Random, bundle: Bundle) -> list[Run]:
+    """A bundle of version 2, perhaps with a fault, upgraded to both versions, and the upgraded one audited and upgraded again."""
+    text, upgraded = (text_of(bundle_lines(bundle, version)) for version in (2, 3))
+    if chance.randrange(4) == 0:
+        text = TextBreaker(chance).texts(text)
+    return gtidrep(text, "upgrade --to 2", "upgrade --to 3") + gtidrep(upgraded, "audit --all", apply_words(chance), "upgrade --to 3")
 
 
 def upgrade(chance: Random) -> list[Run]:
     """A bundle of version 1, audited, applied and upgraded, and the upgraded one applied."""
     bundle = BundleMaker(chance).bundle(False)
     text, upgraded = (text_of(bundle_lines(bundle, version)) for version in (1, 2))
-    return gtidrep(text, "audit", apply_words(chance), "upgrade") + gtidrep(upgraded, "apply", "upgrade")
+    return gtidrep(text, "audit", apply_words(chance), "upgrade", "upgrade --to 3") + gtidrep(upgraded, "apply", "upgrade", "upgrade --to 3")
 
 
 def ordered(chance: Random) -> list[Run]:
@@ -344,6 +359,9 @@ def reply_of(run: Run) -> str:
         if more[0] == "import":
             return f"import: refused {more[3] if more[1] == 'line' else more[1]}"
         first = " ".join([first, more[0], *more[-1:]]) if more[0] == "E14" else f"{first} {more[0]}"
+    elif line.startswith("sound if "):
+        assumed = [it.split(" ")[0] for it in line.removeprefix("sound if ").split(", ")]
+        first = f"sound if {', '.join(dict.fromkeys(assumed))}"
     elif run.words[0] == "set":
         first = "a line" if line else "the empty line"
     return f"{run.words[0]}: {first}"

@@ -18,6 +18,11 @@ ODD_WORDS = [
     *(A, B.upper(), f"{A}:1", f"{A}:0", f"{A}:01", f"{A}:1-3:5", f"{A}:3-1", f"{B}:1,{A}:1", f"{A}:1-2:3", f"{C}:{GREATEST + 1}"),
     *("\t", "1\r", f"{A}:1,", f"{A}:1-", f"{A}:1:1", f"{A}:1-1", f"{A}:1,{B}:1", f"{A}:1, {B}:1"),
 ]
+REFERRED = ["cascade", "restrict", "0", "1", "2", "3", "4", "0,1", "1,0", "0,0"]
+ASSUMED = [
+    *("references", "executed x", "checksums y", "checksums shop.orders", "ignored t", "ignored shop", "ignored shop.orders", "ignored a", "references x"),
+    *("executed", "ignored a b", "rows", "nothing", f"opening x {A}:1", f"statements x {A}:1", "", "references ", "ignored %41"),
+]
 ODD_BYTES = "-:, |0129abgxAZ_\t\r\x00\x7f\x80\xff\xc3\xa9"
 BLANKS = ["", "", "", "", " ", " ", "\t", "\n", "\r\n", "  "]
 SET_BYTES = "-:, 0129afgAF\t\nx|_"
@@ -99,6 +104,12 @@ class TextBreaker:
                 words = [*other[:1], *words[1:]] if self.chance.randrange(2) else self.parts(words, ODD_WORDS)
             case "previous" | "opening":
                 words = [self.wrong_set(lines)]
+            case "fk":
+                words = self.parts(words, [*words, *other, *REFERRED])
+            case "assume":
+                words = [self.chance.choice(ASSUMED)] if self.chance.randrange(2) else self.parts(words, [*words, *other])
+            case "done" if self.chance.randrange(2):
+                return f"assume {self.chance.choice(ASSUMED)}\n{line}"
             case "channel" | "replica":
                 words = self.chance.choice([other, [*words, "preserve"], self.parts(words, ODD_WORDS)])
             case _:

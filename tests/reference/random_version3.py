@@ -36,10 +36,10 @@ class Widener:
         for key, row in narrow.rows.carriers.items():
             if key.index == 0:
                 wide.rows.put(names[key.table], row)
-        wide.references = self.references(wide.schema) if VERSION_3.references else []
+        wide.references = self.references(wide.schema)
         channels = self.chance.sample(NAMES, len(narrow.channels))
         wide.channels = [self.channel(it, name, names) for it, name in zip(narrow.channels, channels)]
-        wide.assumptions = self.assumptions(wide) if VERSION_3.assumptions else []
+        wide.assumptions = self.assumptions(wide)
         return wide
 
     def table(self, table: Table, name: str) -> Table:
@@ -73,7 +73,7 @@ class Widener:
         return made
 
     def assumptions(self, bundle: Bundle) -> list[str]:
-        """Some assumptions that the bundle may have."""
+        """Some assumptions that the bundle may have, of the words that are read."""
         found = self.some(["references", *([] if bundle.rows.carriers else ["rows"])])
         found += [f"ignored {it}" for it in self.some([it for it in NAMES if it not in bundle.schema])]
         for channel in bundle.channels:
@@ -83,4 +83,4 @@ class Widener:
                 found.append(f"statements {channel.name} {gtids.word()}")
             if bundle.opening and self.chance.randrange(3) == 0:
                 found.append(f"opening {channel.name} {bundle.opening.word()}")
-        return sorted(found, key=assumption_order)
+        return sorted((it for it in found if it.split(" ")[0] in VERSION_3.assumed), key=assumption_order)

@@ -5,7 +5,7 @@ from __future__ import annotations
 import os
 import re
 from collections.abc import Callable
-from dataclasses import dataclass, replace
+from dataclasses import dataclass
 
 from .rows import MOST_BYTES
 
@@ -14,6 +14,12 @@ PLAIN = re.compile(r"[A-Za-z0-9_$-]")
 NAME_PART = re.compile(r"(?:[A-Za-z0-9_$-]|%[0-9a-f]{2})+")
 ESCAPE = re.compile(r"%[0-9a-f]{2}")
 COUNT_FORM = re.compile(r"0|[1-9][0-9]*")
+
+# The words of assumptions, in the order of their lines.
+ASSUMPTIONS = ("executed", "checksums", "opening", "statements", "ignored", "references", "rows")
+# (the programs read neither these nor the lines of places yet, so they are read here only where this variable is set)
+LATER_ASSUMPTIONS = {"opening", "statements", "rows"}
+IS_WHOLE = bool(os.environ.get("REFERENCE_VERSION_3"))
 
 
 def is_short_name(word: str) -> bool:
@@ -42,15 +48,26 @@ class Format:
     most_bytes: int = MOST_BYTES
     references: int = 0
     assumptions: int = 0
+    assumed: tuple[str, ...] = ()
     has_opening: bool = True
     has_stamps: bool = True
     has_places: bool = False
     has_hidden: bool = False
 
 
-VERSION_3 = Format("3", is_name, 65_536, 4_096, 64, 2**32 - 2, 2**32 - 1, 65_536, 65_536, has_places=True, has_hidden=True)
-# (the programs don't read lines of foreign keys, places and assumptions yet, so they are read here only where this variable is set)
-if not os.environ.get("REFERENCE_VERSION_3"):
-    VERSION_3 = replace(VERSION_3, references=0, assumptions=0, has_places=False)
+VERSION_3 = Format(
+    "3",
+    is_name,
+    tables=65_536,
+    columns=4_096,
+    unique_keys=64,
+    changes=2**32 - 2,
+    most_bytes=2**32 - 1,
+    references=65_536,
+    assumptions=65_536,
+    assumed=tuple(it for it in ASSUMPTIONS if IS_WHOLE or it not in LATER_ASSUMPTIONS),
+    has_places=IS_WHOLE,
+    has_hidden=True,
+)
 FORMATS = {it.version: it for it in (Format("1", has_opening=False, has_stamps=False), Format("2"), VERSION_3)}
 VERSIONS = set(FORMATS)

@@ -14,7 +14,9 @@ use Rattle.rows.specs.declared.schema.Table.{Table}
 use Rattle.journal.specs.Journals.{JournalValue}
 use Rattle.txn_journal.specs.BundleLinesSoFar.{bundle_lines_so_far_at}
 use Rattle.txn_journal.specs.BundleStates.{BundleValue, BundleStanding, is_done, judge_bundle, no_bundle}
-use Rattle.txn_journal.specs.BundleText.{BundleLine, Own, Inner, Heads, Names, Starts, Has, Puts, Opens, Done, bundle_line_text, ended_bundle_line, bundle_text, bundle_front, channel_lines, channels_lines, start_lines, table_lines, row_lines, opening_set_lines, WritesBundle}
+use Rattle.txn_journal.specs.BundleText.{BundleLine, Own, Inner, Heads, Names, Starts, Has, Refers, Puts, Opens, Assumes, Done, bundle_line_text, ended_bundle_line, bundle_text, bundle_front, channel_lines, channels_lines, start_lines, table_lines, reference_lines, row_lines, assumption_lines, opening_set_lines, WritesBundle}
+use Rattle.txn_journal.specs.declared.references.Reference.{Reference}
+use Rattle.txn_journal.specs.declared.assumptions.Assumption.{Assumption}
 use Rattle.txn_journal.specs.BundleCauses.{HasBundleCause}
 use Rattle.txn_journal.specs.BundleReading.{bundles}
 use Rattle.txn_journal.specs.Spelling.{Line, Header, Previous, Begin, Makes, End, Close, ended_line, lines_text, front_lines, journal_lines, spelling_as}
@@ -29,6 +31,7 @@ use Rattle.txn_journal.specs.declared.lines.Version.TheVariants.{One, Two, Three
 use Rattle.txn_journal.proofs.FormatLaws.{OneMore, runs}
 use Rattle.txn_journal.proofs.BundleLaws.{reads_bundle, IsSoundBundle, bundle_laws}
 use Rattle.txn_journal.proofs.Judged.{bind_ok, ok_is}
+use Rattle.txn_journal.specs.declared.lines.Due.TheVariants.{Any}
 use Rattle.binlog_entries.proofs.TransactionLaws.{flat_map_more}
 use Rattle.binlog_bundle.specs.Lines.{with_line_feed, is_channel}
 use Rattle.binlog_bundle.specs.Executed.{HadExecuted}
@@ -117,7 +120,9 @@ channels_count grants plain (c ∷ cs) ys all =
 plain_lines : (plain : List ℕ) (start : BundleValue) → IsStart plain start → (ls : List BundleLine) × (plain ≡ bundle_text ls)
 plain_lines plain start (version, takes, h) =
     let front = bundle_front version h.rows (all_stamps version start.start.schema start.journals) start in
-    (front, append_cancel_right plain (bundle_text front) done_line (h.text ∙ flat_map_more ended_bundle_line front (Own Done)))
+    let assumed = assumption_lines start.assumptions in
+    let last : List BundleLine = Own Done ∷ [] in
+    (front ++ assumed, append_cancel_right plain (bundle_text (front ++ assumed)) done_line (h.text ∙ ap bundle_text (sym (append_assoc front assumed last)) ∙ flat_map_more ended_bundle_line (front ++ assumed) (Own Done)))
 
 -- ---- lines of a bundle
 
@@ -127,7 +132,9 @@ opens (Own (Heads version)) = 0
 opens (Own (Names replica)) = 0
 opens (Own (Starts opened)) = 0
 opens (Own (Has shape)) = 0
+opens (Own (Refers shape)) = 0
 opens (Own (Puts r)) = 0
+opens (Own (Assumes a)) = 0
 opens (Own Done) = 0
 opens (Inner l) = 0
 
@@ -149,6 +156,8 @@ other_begins (Own (Heads version)) ys = none_counted (is_channel (bundle_line_te
 other_begins (Own (Names replica)) ys = none_counted (is_channel (bundle_line_text (Own (Names replica)) ++ 10 ∷ ys)) refl
 other_begins (Own (Starts opened)) ys = none_counted (is_channel (bundle_line_text (Own (Starts opened)) ++ 10 ∷ ys)) refl
 other_begins (Own (Has shape)) ys = none_counted (is_channel (bundle_line_text (Own (Has shape)) ++ 10 ∷ ys)) refl
+other_begins (Own (Refers shape)) ys = none_counted (is_channel (bundle_line_text (Own (Refers shape)) ++ 10 ∷ ys)) refl
+other_begins (Own (Assumes a)) ys = none_counted (is_channel (bundle_line_text (Own (Assumes a)) ++ 10 ∷ ys)) refl
 other_begins (Own (Puts r)) ys = none_counted (is_channel (bundle_line_text (Own (Puts r)) ++ 10 ∷ ys)) refl
 other_begins (Own Done) ys = none_counted (is_channel (bundle_line_text (Own Done) ++ 10 ∷ ys)) refl
 other_begins (Inner (Header version)) ys = none_counted (is_channel (bundle_line_text (Inner (Header version)) ++ 10 ∷ ys)) refl
@@ -199,6 +208,14 @@ opened_rows : (rs : List TableRow) → opened (row_lines rs) ≡ 0
 opened_rows [] = refl
 opened_rows (r ∷ rs) = ap (λ (k : ℕ). 0 + k) (opened_rows rs)
 
+opened_references : (rs : List Reference) → opened (reference_lines rs) ≡ 0
+opened_references [] = refl
+opened_references (r ∷ rs) = ap (λ (k : ℕ). 0 + k) (opened_references rs)
+
+opened_assumptions : (said : List Assumption) → opened (assumption_lines said) ≡ 0
+opened_assumptions [] = refl
+opened_assumptions (a ∷ said) = ap (λ (k : ℕ). 0 + k) (opened_assumptions said)
+
 opened_opening : (version : Version) (s : Gtids) → opened (opening_set_lines version s) ≡ 0
 opened_opening One s = refl
 opened_opening Two s = refl
@@ -208,8 +225,8 @@ opened_start : (version : Version) (rows : List TableRow) (b : BundleValue) → 
 opened_start version rows b =
     let first : List BundleLine = Own (Heads version) ∷ Own (Names b.replica) ∷ opening_set_lines version b.opened in
     let none : opened first ≡ 0 = ap (λ (k : ℕ). 0 + (0 + k)) (opened_opening version b.opened) in
-    opened_both (first ++ table_lines b.start.schema) (row_lines rows)
-    ∙ (λ i. (opened_both first (table_lines b.start.schema) ∙ (λ j. none j + opened_tables b.start.schema j)) i + opened_rows rows i)
+    opened_both (first ++ table_lines b.start.schema) (reference_lines b.references ++ row_lines rows)
+    ∙ (λ i. (opened_both first (table_lines b.start.schema) ∙ (λ j. none j + opened_tables b.start.schema j)) i + (opened_both (reference_lines b.references) (row_lines rows) ∙ (λ j. opened_references b.references j + opened_rows rows j)) i)
 
 opened_channels : (version : Version) (cs : List BundleChannel) (all : List (List ℕ)) (js : List JournalValue) → opened (channels_lines version cs all js) ≤ length js
 opened_channels version [] all js = least (length js)
@@ -222,10 +239,11 @@ opened_channels version (c ∷ cs) (stamps ∷ all) (j ∷ js) =
     let m : opened (channel_lines version c stamps j ++ channels_lines version cs all js) ≤ suc (length js) = omega (arith, e, f, h) in
     m
 
-opened_front : (version : Version) (rows : List TableRow) (stamps : List (List ℕ)) (b : BundleValue) → opened (bundle_front version rows stamps b ++ Own Done ∷ []) ≤ length b.journals
+opened_front : (version : Version) (rows : List TableRow) (stamps : List (List ℕ)) (b : BundleValue) → opened (bundle_front version rows stamps b ++ (assumption_lines b.assumptions ++ Own Done ∷ [])) ≤ length b.journals
 opened_front version rows stamps b =
-    let e = opened_both (bundle_front version rows stamps b) (Own Done ∷ []) in
-    let d : opened (Own Done ∷ []) ≡ 0 = refl in
+    let last : List BundleLine = Own Done ∷ [] in
+    let e = opened_both (bundle_front version rows stamps b) (assumption_lines b.assumptions ++ last) in
+    let d : opened (assumption_lines b.assumptions ++ last) ≡ 0 = opened_both (assumption_lines b.assumptions) last ∙ (λ i. opened_assumptions b.assumptions i + 0) in
     let f = opened_both (start_lines version rows b) (channels_lines version b.channels stamps b.journals) in
     let g = opened_start version rows b in
     let h = opened_channels version b.channels stamps b.journals in
@@ -238,9 +256,11 @@ opened_last parts.Header rows s e = absurd cc
 opened_last parts.Replica rows s e = absurd cc
 opened_last parts.Opening rows s e = absurd cc
 opened_last parts.Tables rows s e = absurd cc
+opened_last parts.References rows s e = absurd cc
 opened_last parts.Rows rows s e = absurd cc
 opened_last parts.Channels rows s e = absurd cc
 opened_last parts.Journal rows s e = absurd cc
+opened_last parts.Assumptions rows s e = absurd cc
 
 -- ---- lines that are read
 
@@ -248,23 +268,23 @@ opened_last parts.Journal rows s e = absurd cc
 record AreRead (texts : List (List ℕ)) (old : List BundleLine) (t : BundleStanding) : Type 0 where
   pub lines : List BundleLine
   pub texts_are : map bundle_line_text lines ≡ texts
-  pub sound : IsSoundBundle None t (old ++ lines)
+  pub sound : IsSoundBundle Any t (old ++ lines)
 
-lines_read : (texts : List (List ℕ)) (s t : BundleStanding) (old : List BundleLine) → IsSoundBundle None s old → runs judge_bundle s texts ≡ Ok t → AreRead texts old t
+lines_read : (texts : List (List ℕ)) (s t : BundleStanding) (old : List BundleLine) → IsSoundBundle Any s old → runs judge_bundle s texts ≡ Ok t → AreRead texts old t
 lines_read [] s t old sound e = record {
   lines = [];
   texts_are = refl;
-  sound = subst (λ (ls : List BundleLine). IsSoundBundle None t ls) (sym (append-nil old)) (subst (λ (u : BundleStanding). IsSoundBundle None u old) (ok_is s t e) sound);
+  sound = subst (λ (ls : List BundleLine). IsSoundBundle Any t ls) (sym (append-nil old)) (subst (λ (u : BundleStanding). IsSoundBundle Any u old) (ok_is s t e) sound);
 }
 lines_read (x ∷ xs) s t old sound e =
     let a = bind_ok (judge_bundle s x) (λ u. runs judge_bundle u xs) t e in
-    let P : Result BundleStanding Cause → Type 0 = λ r. MatchResult r (OneMore (bundles None) (IsSoundBundle None) old x) (HasBundleCause s x) in
-    let one = subst P a.1 ((bundle_laws None).judges s old x sound) in
+    let P : Result BundleStanding Cause → Type 0 = λ r. MatchResult r (OneMore (bundles Any) (IsSoundBundle Any) old x) (HasBundleCause s x) in
+    let one = subst P a.1 ((bundle_laws Any).judges s old x sound) in
     let more = lines_read xs a.0 t (old ++ one.l ∷ []) one.sound a.2 in
     record {
       lines = one.l ∷ more.lines;
       texts_are = (λ i. sym one.text i ∷ more.texts_are i);
-      sound = subst (λ (ls : List BundleLine). IsSoundBundle None t ls) (append_assoc old (one.l ∷ []) more.lines) more.sound;
+      sound = subst (λ (ls : List BundleLine). IsSoundBundle Any t ls) (append_assoc old (one.l ∷ []) more.lines) more.sound;
     }
 
 texts_of : (ls : List BundleLine) → bundle_text ls ≡ flat_map with_line_feed (map bundle_line_text ls)
@@ -277,8 +297,8 @@ whole_texts (l ∷ ls) all = (all.0, whole_texts ls all.1)
 
 journals_counted : (bytes : List ℕ) (b : BundleValue) → WritesBundle bytes b → lines_with true bytes ≤ length b.journals
 journals_counted bytes b w =
-    let r = reads_bundle None bytes b w in
-    let are = lines_read (map bundle_line_text r.lines) (no_bundle None) r.last [] ((bundle_laws None).starts) r.leads.run in
+    let r = reads_bundle Any bytes b w in
+    let are = lines_read (map bundle_line_text r.lines) (no_bundle Any) r.last [] ((bundle_laws Any).starts) r.leads.run in
     let whole = subst (AllByRecursion IsOneLine) (sym are.texts_are) (whole_texts r.lines r.leads.whole) in
     let same : bytes ≡ bundle_text are.lines = r.parts ∙ texts_of r.lines ∙ ap (flat_map with_line_feed) (sym are.texts_are) ∙ sym (texts_of are.lines) in
     let count = text_counts are.lines whole in

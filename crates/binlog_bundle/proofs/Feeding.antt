@@ -1,5 +1,5 @@
 -- Pieces of a bundle's text, one after another.
-use Rattle.std.proofs.Common.{◌≡◌, ℕ, eqb, Bool, true, false, cond, List, [], ◌∷◌, ◌++◌, None, Result, Ok, Err, sym, ap, ◌∙◌, subst, append_assoc, inl, inr}
+use Rattle.std.proofs.Common.{◌≡◌, ℕ, eqb, Bool, true, false, cond, List, [], ◌∷◌, ◌++◌, Result, Ok, Err, sym, ap, ◌∙◌, subst, append_assoc, inl, inr}
 use Rattle.std.specs.Prelude.{OnOk, IfOk, IfErr}
 use Rattle.gtid_set.specs.declared.fault.SetFault.{SetFault}
 use Rattle.gtid_set.specs.declared.fault.SetFault.TheVariants.{PoolFull, SourcesFull}
@@ -16,15 +16,16 @@ use Rattle.txn_journal.specs.declared.fault.JournalFault.TheVariants as faults
 use Rattle.txn_journal.proofs.Pieces.{eats_append, stopped_stays}
 use Rattle.txn_journal.proofs.FormatLaws.{is_found, is_refused}
 use Rattle.txn_journal.proofs.BundleLaws.{IsSoundBundle, bundle_laws}
+use Rattle.txn_journal.specs.declared.lines.Due.TheVariants.{Any}
 use Rattle.binlog_bundle.specs.Refused.{GoesOn, IsFed, IsTaken, StopsAt, IsRefused}
 
 -- ---- the fold over the bytes
 
 abbrev read : List ℕ → Progress BundleStanding
-read bytes = feed_bundle_bytes (bundle_start None) bytes
+read bytes = feed_bundle_bytes (bundle_start Any) bytes
 
 read_more : (xs ys : List ℕ) → read (xs ++ ys) ≡ feed_bundle_bytes (read xs) ys
-read_more xs ys = eats_append judge_bundle (bundle_start None) xs ys
+read_more xs ys = eats_append judge_bundle (bundle_start Any) xs ys
 
 -- a line is refused, and not that there is none
 last_byte : (v : Bool) (r : Result BundleStanding Cause) (s : BundleStanding) (k m n : ℕ) (rest : List ℕ) → cond v (progress_after r m) (Reading s k rest) ≡ Stopped (faults.Truncated n) → ⊥
@@ -41,12 +42,12 @@ not_short : (bytes : List ℕ) (p : Progress BundleStanding) (n : ℕ) → ((m :
 not_short [] p n not e = not n e
 not_short (b ∷ bs) p n not e = not_short bs (feed_byte judge_bundle p b) n (λ m. byte_not_short p b m not) e
 
-not_short_yet : (m : ℕ) → bundle_start None ≡ Stopped (faults.Truncated m) → ⊥
+not_short_yet : (m : ℕ) → bundle_start Any ≡ Stopped (faults.Truncated m) → ⊥
 not_short_yet m e = cc
 
 -- ---- sets that are full
 
-fills_more : (large : BundleStanding → Type 0) (xs ys : List ℕ) → Fills large judge_bundle (bundle_start None) xs → Fills large judge_bundle (bundle_start None) (xs ++ ys)
+fills_more : (large : BundleStanding → Type 0) (xs ys : List ℕ) → Fills large judge_bundle (bundle_start Any) xs → Fills large judge_bundle (bundle_start Any) (xs ++ ys)
 fills_more large xs ys k = record {
   front = k.front;
   rest = k.rest ++ ys;
@@ -54,7 +55,7 @@ fills_more large xs ys k = record {
   is_full = k.is_full;
 }
 
-fills_behind : (large : BundleStanding → Type 0) (xs ys : List ℕ) (p : Progress BundleStanding) → p ≡ read xs → Fills large judge_bundle p ys → Fills large judge_bundle (bundle_start None) (xs ++ ys)
+fills_behind : (large : BundleStanding → Type 0) (xs ys : List ℕ) (p : Progress BundleStanding) → p ≡ read xs → Fills large judge_bundle p ys → Fills large judge_bundle (bundle_start Any) (xs ++ ys)
 fills_behind large xs ys p is k = record {
   front = xs ++ k.front;
   rest = k.rest;
@@ -62,16 +63,16 @@ fills_behind large xs ys p is k = record {
   is_full = subst (HasFull large) (sym (read_more xs k.front ∙ ap (λ (q : Progress BundleStanding). feed_bundle_bytes q k.front) (sym is))) k.is_full;
 }
 
-full_more : (fault : SetFault) (xs ys : List ℕ) → IsFaultOfBundle (bundle_start None) xs fault → IsFaultOfBundle (bundle_start None) (xs ++ ys) fault
+full_more : (fault : SetFault) (xs ys : List ℕ) → IsFaultOfBundle (bundle_start Any) xs fault → IsFaultOfBundle (bundle_start Any) (xs ++ ys) fault
 full_more fault xs ys h = fault_map fault (fills_more (IsFullBundle SourcesFull) xs ys) (fills_more (IsFullBundle PoolFull) xs ys) h
 
-full_behind : (fault : SetFault) (xs ys : List ℕ) (p : Progress BundleStanding) → p ≡ read xs → IsPieceFault IsFullBundle judge_bundle p ys fault → IsFaultOfBundle (bundle_start None) (xs ++ ys) fault
+full_behind : (fault : SetFault) (xs ys : List ℕ) (p : Progress BundleStanding) → p ≡ read xs → IsPieceFault IsFullBundle judge_bundle p ys fault → IsFaultOfBundle (bundle_start Any) (xs ++ ys) fault
 full_behind fault xs ys p is h = fault_map fault (fills_behind (IsFullBundle SourcesFull) xs ys p is) (fills_behind (IsFullBundle PoolFull) xs ys p is) h
 
 -- ---- what is refused
 
 refuses : (fault : JournalFault) (bytes : List ℕ) → Err fault ≡ closing_bundle (read bytes) → RefusesBundle fault bytes
-refuses fault bytes h = is_refused (bundles None) (IsSoundBundle None) (bundle_laws None) (Err fault) bytes (inr h)
+refuses fault bytes h = is_refused (bundles Any) (IsSoundBundle Any) (bundle_laws Any) (Err fault) bytes (inr h)
 
 closed_is : (fault : JournalFault) (bytes : List ℕ) → (let r : Result BundleValue JournalFault = Err fault in r) ≡ closing_bundle (read bytes) → IsRefused fault bytes
 closed_is (faults.Set fault) bytes h = refuses (faults.Set fault) bytes h
@@ -85,7 +86,7 @@ closing_stopped fault p e = sym (ap closing_bundle e)
 stops_at : (fault : JournalFault) (bytes : List ℕ) → read bytes ≡ Stopped fault → StopsAt fault bytes
 stops_at (faults.Set fault) bytes e = refuses (faults.Set fault) bytes (closing_stopped (faults.Set fault) (read bytes) e)
 stops_at (faults.Line n cause) bytes e = (refuses (faults.Line n cause) bytes (closing_stopped (faults.Line n cause) (read bytes) e), e)
-stops_at (faults.Truncated n) bytes e = not_short bytes (bundle_start None) n not_short_yet e
+stops_at (faults.Truncated n) bytes e = not_short bytes (bundle_start Any) n not_short_yet e
 
 -- whatever comes after them
 pub refused_more : (fault : JournalFault) (xs ys : List ℕ) → StopsAt fault xs → IsRefused fault (xs ++ ys)
@@ -119,18 +120,18 @@ has_stopped : (fault : JournalFault) (p : Progress BundleStanding) → (let r : 
 has_stopped fault (Reading s n rest) e = absurd cc
 has_stopped fault (Stopped other) e = let same : fault ≡ other = cc in ap (λ (f : JournalFault). Stopped f) (sym same)
 
-pub start_fed : (p : Progress BundleStanding) → p ≡ bundle_start None → IsFed p []
+pub start_fed : (p : Progress BundleStanding) → p ≡ bundle_start Any → IsFed p []
 start_fed p e = (e, subst GoesOn (sym e) tt)
 
 pub is_taken : (bytes : List ℕ) (p : Progress BundleStanding) → IsFed p bytes → IsTaken bytes
 is_taken bytes p fed = subst GoesOn fed.0 fed.1
 
-pub piece_fed : (before piece : List ℕ) (old new : Progress BundleStanding) (r : Result (Unit {0}) JournalFault) → FeedsBy (bundles None) old piece new → r ≡ answer new → IsFed old before → OnOk r (IsFed new (before ++ piece))
+pub piece_fed : (before piece : List ℕ) (old new : Progress BundleStanding) (r : Result (Unit {0}) JournalFault) → FeedsBy (bundles Any) old piece new → r ≡ answer new → IsFed old before → OnOk r (IsFed new (before ++ piece))
 piece_fed before piece old new (Err fault) h a fed = tt
 piece_fed before piece old new (Ok u) (inl x) a fed = absurd (let bad : Ok u ≡ Err (faults.Set x.0) = a ∙ ap answer x.1 in cc)
 piece_fed before piece old new (Ok u) (inr x) a fed = (x ∙ fed_next before piece old fed.0, goes_on u new a)
 
-pub piece_refused : (before piece : List ℕ) (old new : Progress BundleStanding) (r : Result (Unit {0}) JournalFault) → FeedsBy (bundles None) old piece new → r ≡ answer new → IsFed old before → IfErr r (λ fault. StopsAt fault (before ++ piece))
+pub piece_refused : (before piece : List ℕ) (old new : Progress BundleStanding) (r : Result (Unit {0}) JournalFault) → FeedsBy (bundles Any) old piece new → r ≡ answer new → IsFed old before → IfErr r (λ fault. StopsAt fault (before ++ piece))
 piece_refused before piece old new (Ok u) h a fed = tt
 piece_refused before piece old new (Err fault) (inl x) a fed =
     let is : (let r : Result (Unit {0}) JournalFault = Err fault in r) ≡ Err (faults.Set x.0) = a ∙ ap answer x.1 in
@@ -142,7 +143,7 @@ piece_refused before piece old new (Err fault) (inr x) a fed = stops_at fault (b
 
 pub closed_found : (bytes : List ℕ) (p : Progress BundleStanding) (r : Result BundleValue JournalFault) → r ≡ closing_bundle p → IsFed p bytes → IfOk r (λ b. WritesBundle bytes b)
 closed_found bytes p (Err fault) e fed = tt
-closed_found bytes p (Ok b) e fed = is_found (bundles None) (IsSoundBundle None) (bundle_laws None) (Ok b) bytes (inr (e ∙ ap closing_bundle fed.0))
+closed_found bytes p (Ok b) e fed = is_found (bundles Any) (IsSoundBundle Any) (bundle_laws Any) (Ok b) bytes (inr (e ∙ ap closing_bundle fed.0))
 
 pub closed_refused : (bytes : List ℕ) (p : Progress BundleStanding) (r : Result BundleValue JournalFault) → r ≡ closing_bundle p → IsFed p bytes → IfErr r (λ fault. IsRefused fault bytes)
 closed_refused bytes p (Ok b) e fed = tt

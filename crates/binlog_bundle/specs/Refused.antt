@@ -27,6 +27,7 @@ use Rattle.binlog_bundle.specs.declared.fault.BundleFault.TheVariants as bundles
 use Rattle.binlog_bundle.specs.declared.fault.ChannelFault.{ChannelFault}
 use Rattle.binlog_bundle.specs.declared.fault.ChannelFault.TheVariants as channels
 use Rattle.txn_journal.specs.BundleText.{WritesBundle}
+use Rattle.txn_journal.specs.declared.lines.Due.TheVariants.{Any}
 
 -- ---- faults
 
@@ -59,24 +60,24 @@ GoesOn (Stopped fault) = ⊥
 
 -- these bytes have come, and were taken
 abbrev pub IsFed : Progress BundleStanding → List ℕ → Type 0
-IsFed p bytes = (p ≡ feed_bundle_bytes (bundle_start None) bytes) × GoesOn p
+IsFed p bytes = (p ≡ feed_bundle_bytes (bundle_start Any) bytes) × GoesOn p
 
 -- nothing is wrong with the whole lines of these bytes, as those of a bundle
 abbrev pub IsTaken : List ℕ → Type 0
-IsTaken bytes = GoesOn (feed_bundle_bytes (bundle_start None) bytes)
+IsTaken bytes = GoesOn (feed_bundle_bytes (bundle_start Any) bytes)
 
 -- A whole line of these bytes is the first that is none of a bundle's, in the words of the format and by the fold over the bytes; or a set is full after
 -- some of them, or memory was refused. That they end too early is no such fault.
 abbrev pub StopsAt : JournalFault → List ℕ → Type 0
 StopsAt (faults.Set fault) bytes = RefusesBundle (faults.Set fault) bytes
-StopsAt (faults.Line n cause) bytes = RefusesBundle (faults.Line n cause) bytes × (feed_bundle_bytes (bundle_start None) bytes ≡ Stopped (faults.Line n cause))
+StopsAt (faults.Line n cause) bytes = RefusesBundle (faults.Line n cause) bytes × (feed_bundle_bytes (bundle_start Any) bytes ≡ Stopped (faults.Line n cause))
 StopsAt (faults.Truncated n) bytes = ⊥
 
 -- the same of bytes that are the whole of a text
 abbrev pub IsRefused : JournalFault → List ℕ → Type 0
 IsRefused (faults.Set fault) bytes = RefusesBundle (faults.Set fault) bytes
-IsRefused (faults.Line n cause) bytes = RefusesBundle (faults.Line n cause) bytes × (closing_bundle (feed_bundle_bytes (bundle_start None) bytes) ≡ Err (faults.Line n cause))
-IsRefused (faults.Truncated n) bytes = RefusesBundle (faults.Truncated n) bytes × (closing_bundle (feed_bundle_bytes (bundle_start None) bytes) ≡ Err (faults.Truncated n))
+IsRefused (faults.Line n cause) bytes = RefusesBundle (faults.Line n cause) bytes × (closing_bundle (feed_bundle_bytes (bundle_start Any) bytes) ≡ Err (faults.Line n cause))
+IsRefused (faults.Truncated n) bytes = RefusesBundle (faults.Truncated n) bytes × (closing_bundle (feed_bundle_bytes (bundle_start Any) bytes) ≡ Err (faults.Truncated n))
 
 -- a piece more: after all bytes that were taken before it, it is taken, or else refused
 abbrev pub TakesMore : {A : Type 0} → Result A JournalFault → Progress BundleStanding → Progress BundleStanding → List ℕ → Type 0

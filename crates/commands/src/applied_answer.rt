@@ -1,34 +1,49 @@
 //! The answers of `apply`: a state, or the line of a verdict.
-ghost use Rattle.std.specs.Prelude.{IfOk};
+ghost use Rattle.std.specs.Prelude.{◌≡◌, ◌++◌, IfOk, string_bytes};
+ghost use Rattle.gtid_report.specs.State.{executed_line};
+ghost use Rattle.gtid_report.specs.Assumed.{assumed, assume_lines};
 ghost use Rattle.serving.specs.Verdicts.{IsUnsound};
 ghost use Rattle.commands.specs.Printed.{Holds};
 ghost use Rattle.commands.specs.Bundles.{printed_state, apply_answer};
 
 use crate::answer::Answer;
-use crate::audit_command::verdict_answer;
-use crate::edge::Outcome;
+use crate::audit_command::{sound_ending, verdict_answer};
 use crate::pieces::Text;
-use gtid_report::{render_executed, render_lent_rows};
+use gtid_report::{render_assumed, render_executed, render_lent_rows};
+use gtid_set::GtidSet;
 use replica_core::Core;
-use rows::Schema;
 use serving::Order;
 use std::alloc::{AllocError, Global};
 use txn_journal::Bundle;
 use world::Verdict;
 
-/// The lines of a replica's state, whose rows are of these tables.
+/// The first lines of a state in which a bundle results: what it rests on, and the executed set.
+pub(crate) fn first_lines(
+    alloc: Global,
+    bundle: &Bundle,
+    executed: &GtidSet,
+) -> Result<String, AllocError>
+    ensures { IfOk result (λ text. string_bytes text ≡ assume_lines (assumed bundle.now) ++ executed_line executed.now) }
+{
+    let mut text = render_assumed(alloc, bundle)?;
+    let line = render_executed(alloc, executed)?;
+    text.push_str(&line)?;
+    Ok(text)
+}
+
+/// The lines of a replica's state in which a bundle results.
 pub(crate) fn state_answer(
     alloc: Global,
-    schema: &Schema,
+    bundle: &Bundle,
     core: &Core,
 ) -> Result<Answer, AllocError>
-    ensures { IfOk result (λ answer. Holds answer (printed_state schema.now core.now.state.executed core.now.state.rows)) }
+    ensures { IfOk result (λ answer. Holds answer (printed_state (assumed bundle.now) bundle.now.start.schema core.now.state.executed core.now.state.rows)) }
 {
-    let mut text = render_executed(alloc, core.executed())?;
+    let mut text = first_lines(alloc, bundle, core.executed())?;
     let list = core.rows().list_lent(alloc)?;
-    render_lent_rows(&mut text, schema, &list)?;
+    render_lent_rows(&mut text, bundle.schema(), &list)?;
     Ok(Answer {
-        outcome: Outcome::Done,
+        outcome: sound_ending(bundle),
         text: Text::of(alloc, text),
     })
 }
@@ -44,5 +59,5 @@ pub(crate) fn unsound_answer(
     requires { IsUnsound order bundle.now verdict.now }
     ensures { IfOk result (λ answer. Holds answer (apply_answer order bundle.now)) }
 {
-    verdict_answer(alloc, verdict)
+    verdict_answer(alloc, bundle, verdict)
 }

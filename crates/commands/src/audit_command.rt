@@ -2,36 +2,52 @@
 ghost use Rattle.std.specs.Prelude.{◌≡◌, IfOk, IfErr};
 ghost use Rattle.serving.specs.Faults.{IsVerdictFault};
 ghost use Rattle.commands.specs.Printed.{Holds, to_all, IsDone, HasFailed};
-ghost use Rattle.commands.specs.Bundles.{Audits, audit_answer, verdict_ending, printed_verdict};
+ghost use Rattle.gtid_report.specs.Assumed.{assumed};
+ghost use Rattle.commands.specs.Bundles.{Audits, audit_answer, sound_ending, verdict_ending, printed_verdict};
 
 use crate::answer::{Answer, with_line_feed};
 use crate::edge::{Outcome, RunFault, Sink, Source};
 use crate::pieces::Text;
 use crate::request::{Request, run};
 use crate::streams::Streams;
-use gtid_report::{Fault, render_verdict};
+use gtid_report::{Fault, is_assuming, render_verdict_on};
 use serving::{Order, verdict_over};
 use std::alloc::{AllocError, Global};
 use txn_journal::Bundle;
 use world::Verdict;
 
-/// How a verdict ends a command.
-pub(crate) fn verdict_ending(verdict: &Verdict) -> Outcome
-    ensures { result ≡ verdict_ending verdict.now }
+/// How a command ends that finds a bundle sound.
+pub(crate) fn sound_ending(bundle: &Bundle) -> Outcome
+    ensures { result ≡ sound_ending (assumed bundle.now) }
+{
+    if is_assuming(bundle) {
+        Outcome::Assumed
+    } else {
+        Outcome::Done
+    }
+}
+
+/// How a verdict on a bundle ends a command.
+pub(crate) fn verdict_ending(bundle: &Bundle, verdict: &Verdict) -> Outcome
+    ensures { result ≡ verdict_ending (assumed bundle.now) verdict.now }
 {
     match verdict {
-        Verdict::Sound => Outcome::Done,
+        Verdict::Sound => sound_ending(bundle),
         _ => Outcome::Refused,
     }
 }
 
-/// The one line of a verdict.
-pub(crate) fn verdict_answer(alloc: Global, verdict: &Verdict) -> Result<Answer, AllocError>
-    ensures { IfOk result (λ answer. Holds answer (printed_verdict verdict.now)) }
+/// The one line of a verdict on a bundle, and of what it rests on.
+pub(crate) fn verdict_answer(
+    alloc: Global,
+    bundle: &Bundle,
+    verdict: &Verdict,
+) -> Result<Answer, AllocError>
+    ensures { IfOk result (λ answer. Holds answer (printed_verdict (assumed bundle.now) verdict.now)) }
 {
-    let line = render_verdict(alloc, verdict)?;
+    let line = render_verdict_on(alloc, bundle, verdict)?;
     Ok(Answer {
-        outcome: verdict_ending(verdict),
+        outcome: verdict_ending(bundle, verdict),
         text: Text::of(alloc, with_line_feed(line)?),
     })
 }
@@ -51,7 +67,7 @@ impl Request for Audit {
 
     fn answer(&self, alloc: Global, bundle: &Bundle) -> Result<Answer, Fault> {
         let verdict = verdict_over(alloc, bundle, self.order)?;
-        Ok(verdict_answer(alloc, &verdict)?)
+        Ok(verdict_answer(alloc, bundle, &verdict)?)
     }
 }
 

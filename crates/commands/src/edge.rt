@@ -37,6 +37,8 @@ pub trait Sink {
 #[derive(Clone, Copy, Debug, PartialEq, Eq, Drop)]
 pub enum Outcome {
     Done,
+    /// The answer rests on something that the input doesn't show, which it names.
+    Assumed,
     Refused,
     /// The command does not take its words, which standard output reports.
     Misused,

@@ -56,7 +56,7 @@ fn explain_bundle(
     let missing = missing_beside(alloc, bundle, &verdict)?;
     let notes = explain_verdict(alloc, bytes, bundle, &missing, &verdict)?;
     Ok(Report {
-        answer: verdict_answer(alloc, &verdict)?,
+        answer: verdict_answer(alloc, bundle, &verdict)?,
         notes,
     })
 }

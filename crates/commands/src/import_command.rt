@@ -34,11 +34,11 @@ fn has_wide(tables: &[Table]) -> bool
     tables.iter().any(|table| is_wide(table.limits))
 }
 
-/// The version by which a bundle is written: 3 where a table has its limits, else 2.
+/// The version by which a bundle is written: 3 where a table has its limits or something is assumed, else 2.
 fn written_version(bundle: &Bundle) -> Version
     ensures { result ≡ written_version bundle.now }
 {
-    if has_wide(bundle.schema().tables()) {
+    if has_wide(bundle.schema().tables()) || !bundle.assumptions().is_empty() {
         Version::Three
     } else {
         Version::Two

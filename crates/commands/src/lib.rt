@@ -89,6 +89,6 @@ pub use replica_way::apply_decoded;
 pub use set_command::run_set;
 pub use states_command::run_states;
 pub use streams::Streams;
-pub use upgrade_command::run_upgrade;
+pub use upgrade_command::{Target, run_upgrade};
 pub use version_command::run_version;
 pub use wrap::{StdSink, StdSource};

@@ -3,16 +3,17 @@ ghost use Rattle.std.specs.Prelude.{◌≡◌, ◌++◌, IfOk, IfErr, OnOk, stri
 ghost use Rattle.gtid_report.specs.VerdictLines.{verdict_line};
 ghost use Rattle.serving.specs.Listing.{IsFaultsFault};
 ghost use Rattle.commands.specs.Printed.{Holds, to_all, IsDone, HasFailed, with_line_feed};
-ghost use Rattle.commands.specs.Listings.{Lists, printed_faults, held_faults, list_answer, run_line, run_lines, verdict_lines};
+ghost use Rattle.gtid_report.specs.Assumed.{assumed};
+ghost use Rattle.commands.specs.Listings.{Lists, last_line, printed_faults, held_faults, list_answer, run_line, run_lines, verdict_lines};
 
-use crate::answer::Answer;
+use crate::answer::{Answer, with_line_feed};
 use crate::audit_command::verdict_ending;
 use crate::edge::{Outcome, RunFault, Sink, Source};
 use crate::pieces::Text;
 use crate::request::{Request, run};
 use crate::streams::Streams;
 use audit::AllFaults;
-use gtid_report::{Fault, render_verdict};
+use gtid_report::{Fault, is_assuming, push_conditions, render_verdict, render_verdict_on};
 use gtid_text::{Span, write_span};
 use serving::faults_over;
 use std::alloc::{AllocError, Global};
@@ -58,12 +59,24 @@ fn push_runs(text: &mut String, runs: &[Span]) -> Result<(), AllocError>
     Ok(())
 }
 
-/// The lines of all faults.
-fn list_answer(alloc: Global, all: &AllFaults) -> Result<Answer, AllocError>
-    ensures { IfOk result (λ answer. Holds answer (printed_faults (held_faults all.now))) }
+/// What the faults of a bundle rest on, if its verdict doesn't say it.
+fn push_last(text: &mut String, bundle: &Bundle, verdict: &Verdict) -> Result<(), AllocError>
+    ensures { OnOk result (string_bytes text.new ≡ string_bytes text.old ++ last_line (assumed bundle.now) verdict.now) }
 {
-    let mut text = String::new(alloc);
-    push_verdict(alloc, &mut text, &all.verdict)?;
+    if matches!(verdict, Verdict::Sound) || !is_assuming(bundle) {
+        return Ok(());
+    }
+    text.push_str("if ")?;
+    push_conditions(text, bundle)?;
+    text.push_str("\n")
+}
+
+/// The lines of all faults of a bundle.
+fn list_answer(alloc: Global, bundle: &Bundle, all: &AllFaults) -> Result<Answer, AllocError>
+    ensures { IfOk result (λ answer. Holds answer (printed_faults (assumed bundle.now) (held_faults all.now))) }
+{
+    let line = render_verdict_on(alloc, bundle, &all.verdict)?;
+    let mut text = with_line_feed(line)?;
     push_verdicts(alloc, &mut text, all.unequal.as_slice())?;
     push_verdicts(alloc, &mut text, all.purged.as_slice())?;
     let runs = all.missing.spans(alloc)?;
@@ -71,8 +84,9 @@ fn list_answer(alloc: Global, all: &AllFaults) -> Result<Answer, AllocError>
     push_verdicts(alloc, &mut text, all.shared.as_slice())?;
     push_verdicts(alloc, &mut text, all.not_closed.as_slice())?;
     push_verdicts(alloc, &mut text, all.does_not_apply.as_slice())?;
+    push_last(&mut text, bundle, &all.verdict)?;
     Ok(Answer {
-        outcome: verdict_ending(&all.verdict),
+        outcome: verdict_ending(bundle, &all.verdict),
         text: Text::of(alloc, text),
     })
 }
@@ -89,7 +103,7 @@ impl Request for List {
 
     fn answer(&self, alloc: Global, bundle: &Bundle) -> Result<Answer, Fault> {
         let all = faults_over(alloc, bundle)?;
-        let answer = list_answer(alloc, &all);
+        let answer = list_answer(alloc, bundle, &all);
         mem::forget(all);
         Ok(answer?)
     }
@@ -97,8 +111,8 @@ impl Request for List {
 
 /// Reads a bundle, and writes the line of its audit's verdict and after it one for each other GTID under which journals differ, each other
 /// journal that begins after the opening set, each other run of missing GTIDs, each other shared key, each other GTID that is in a journal
-/// without what it needs and, if by the verdict a transaction does not apply, each other source of which one does not, or the line of its
-/// refusal, and nothing else.
+/// without what it needs and, if by the verdict a transaction does not apply, each other source of which one does not, and at last one for
+/// what that rests on, if the verdict doesn't say it; or the line of its refusal; and nothing else.
 pub fn run_list<S: Source, W: Sink>(
     alloc: Global,
     streams: &mut Streams<S, W>,

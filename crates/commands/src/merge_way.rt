@@ -7,20 +7,21 @@ ghost use Rattle.commands.specs.Printed.{Printed, Holds, GivesUp};
 ghost use Rattle.rows.specs.Listing.{all_shown, rows_of};
 ghost use Rattle.rows.specs.Parts.{AreParts};
 ghost use Rattle.row_parts.specs.Listing.{rows_in_each};
+ghost use Rattle.gtid_report.specs.Assumed.{assumed};
 ghost use Rattle.commands.specs.Bundles.{printed_rows, printed_state, apply_answer};
 
 use crate::answer::Answer;
-use crate::applied_answer::{state_answer, unsound_answer};
-use crate::edge::Outcome;
+use crate::applied_answer::{first_lines, state_answer, unsound_answer};
+use crate::audit_command::sound_ending;
 use crate::pieces::Text;
 use crate::printing::render_beside;
 use crate::side_by_side::serve_beside;
-use gtid_report::{Fault, render_executed};
+use gtid_report::Fault;
 use gtid_set::GtidSet;
 use journal::{Entry, Journal};
 use replica_core::Core;
 use row_parts::list_whole;
-use rows::{Key, Row, Rows, Schema};
+use rows::{Key, Row};
 use serving::{Order, StateOrVerdict, keeps_servable, serve};
 use source_shares::{Merged, merge_by_shares};
 use std::alloc::{AllocError, Global};
@@ -31,20 +32,20 @@ use txn_journal::Bundle;
 /// How often the list of rows is halved for threads that print it.
 const HALVINGS: u8 = 2;
 
-/// The lines of an executed set, and of rows of these tables that are lent in order.
+/// The lines of an executed set in which a bundle results, and of rows that are lent in order.
 fn listed_answer<R: Threads + Sync>(
     rt: &R,
     alloc: Global,
-    schema: &Schema,
+    bundle: &Bundle,
     executed: &GtidSet,
     list: &[(&Key, &Row)],
 ) -> Result<Answer, AllocError>
-    ensures { IfOk result (λ answer. Holds answer (printed_rows schema.now executed.now (rows_of (all_shown list.now)))) }
+    ensures { IfOk result (λ answer. Holds answer (printed_rows (assumed bundle.now) bundle.now.start.schema executed.now (rows_of (all_shown list.now)))) }
 {
-    let line = render_executed(alloc, executed)?;
-    let text = render_beside(rt, alloc, line, schema, list, HALVINGS)?;
+    let lines = first_lines(alloc, bundle, executed)?;
+    let text = render_beside(rt, alloc, lines, bundle.schema(), list, HALVINGS)?;
     Ok(Answer {
-        outcome: Outcome::Done,
+        outcome: sound_ending(bundle),
         text,
     })
 }
@@ -53,13 +54,13 @@ fn listed_answer<R: Threads + Sync>(
 fn parts_answer<R: Threads + Sync>(
     rt: &R,
     alloc: Global,
-    opening: &Rows,
+    bundle: &Bundle,
     merged: &Merged,
 ) -> Result<Answer, AllocError>
-    ensures { IfOk result (λ answer. (whole : _) → AreParts opening.now.rows (rows_in_each merged.now.parts.items) whole → Holds answer (printed_state opening.now.schema merged.now.executed whole)) }
+    ensures { IfOk result (λ answer. (whole : _) → AreParts bundle.now.start.rows (rows_in_each merged.now.parts.items) whole → Holds answer (printed_state (assumed bundle.now) bundle.now.start.schema merged.now.executed whole)) }
 {
-    let list = list_whole(rt, alloc, opening, &merged.parts)?;
-    listed_answer(rt, alloc, opening.schema(), &merged.executed, &list)
+    let list = list_whole(rt, alloc, bundle.rows(), &merged.parts)?;
+    listed_answer(rt, alloc, bundle, &merged.executed, &list)
 }
 
 /// The lines of a bundle's result.
@@ -73,7 +74,7 @@ fn merged_answer(
     ensures { IfOk result (λ answer. Holds answer (apply_answer order bundle.now)) }
 {
     match merged {
-        StateOrVerdict::State(core) => state_answer(alloc, bundle.schema(), core),
+        StateOrVerdict::State(core) => state_answer(alloc, bundle, core),
         StateOrVerdict::Verdict(verdict) => unsound_answer(alloc, order, bundle, verdict),
     }
 }
@@ -179,7 +180,7 @@ fn apply_by_shares<R: Threads + Sync>(
     let Some(merged) = found else {
         return Ok(None);
     };
-    match parts_answer(rt, alloc, rows, &merged) {
+    match parts_answer(rt, alloc, bundle, &merged) {
         Ok(answer) => Ok(Some(KeptAnswer {
             answer,
             left: Left::Shares(merged),

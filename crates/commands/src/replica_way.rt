@@ -28,7 +28,7 @@ pub(crate) fn worked_answer(
     ensures { IfOk result (λ answer. Holds answer (apply_answer order bundle.now)) }
 {
     match &worked.verdict {
-        None => state_answer(alloc, bundle.schema(), worked.book.state()),
+        None => state_answer(alloc, bundle, worked.book.state()),
         Some(verdict) => unsound_answer(alloc, order, bundle, verdict),
     }
 }

@@ -7,7 +7,9 @@ ghost use Rattle.txn_journal.specs.declared.fault.JournalFault.{JournalFault};
 ghost use Rattle.txn_journal.specs.declared.fault.JournalFault.TheVariants as journals;
 ghost use Rattle.txn_journal.specs.BundleReaders.{bundle_reading};
 ghost use Rattle.txn_journal.specs.BundleReading.{closing_bundle};
-ghost use Rattle.commands.specs.Bundles.{ParsesAsBundle, ParsesAsOldBundle, bundle_in, old_bundle_in};
+ghost use Rattle.txn_journal.specs.declared.lines.Due.TheVariants.{Only, BeforeThree};
+ghost use Rattle.txn_journal.specs.declared.lines.Version.TheVariants.{One};
+ghost use Rattle.commands.specs.Bundles.{ParsesAsBundle, ParsesBy, bundle_in, bundle_by};
 ghost use Rattle.commands.specs.Positions.{ParsesAsJournal, journal_in};
 ghost use Rattle.commands.specs.Texts.{IsTextOf};
 ghost use Rattle.parallel_reading.specs.Coming.{HasCome};
@@ -16,7 +18,7 @@ use journal::Journal;
 use std::alloc::{AllocError, Global};
 use std::marker::Model;
 use std::mem;
-use txn_journal::{Bundle, BundleReader, JournalFault, decode, decode_bundle_v1};
+use txn_journal::{Bundle, BundleReader, Due, JournalFault, Version, decode, decode_bundle_by};
 
 /// What bytes parse as: a bundle or a journal.
 pub(crate) trait Text: Drop {
@@ -88,11 +90,11 @@ fn finish_or_leave(reader: BundleReader) -> Result<Bundle, JournalFault>
 
 /// A bundle that was read by version 1 of the format alone.
 #[derive(Drop)]
-pub(crate) struct OldBundle {
+pub(crate) struct FirstBundle {
     pub(crate) bundle: Bundle,
 }
 
-impl Model for OldBundle {
+impl Model for FirstBundle {
     ghost use Rattle.std.specs.Coded.{codes};
     ghost use Rattle.gtid_set.specs.Sets.{gtids_code};
     ghost use Rattle.rows.specs.Coding.{rows_code};
@@ -105,10 +107,10 @@ impl Model for OldBundle {
     ghost view = { λ old. old.bundle };
 }
 
-impl Text for OldBundle {
-    ghost parses = { ParsesAsOldBundle };
+impl Text for FirstBundle {
+    ghost parses = { ParsesBy (Only One) };
 
-    ghost decoded = { old_bundle_in };
+    ghost decoded = { bundle_by (Only One) };
 
     ghost full = { λ bytes f h. h };
 
@@ -124,9 +126,55 @@ impl Text for OldBundle {
         reader.extend_from_slice(piece)
     }
 
-    fn finish(alloc: Global, reader: Vec<u8>) -> Result<OldBundle, JournalFault> {
-        match decode_bundle_v1(alloc, &reader) {
-            Ok(bundle) => Ok(OldBundle { bundle }),
+    fn finish(alloc: Global, reader: Vec<u8>) -> Result<FirstBundle, JournalFault> {
+        match decode_bundle_by(alloc, Due::Only(Version::One), &reader) {
+            Ok(bundle) => Ok(FirstBundle { bundle }),
+            Err(fault) => Err(fault),
+        }
+    }
+}
+
+/// A bundle that was read by the versions before version 3.
+#[derive(Drop)]
+pub(crate) struct EarlierBundle {
+    pub(crate) bundle: Bundle,
+}
+
+impl Model for EarlierBundle {
+    ghost use Rattle.std.specs.Coded.{codes};
+    ghost use Rattle.gtid_set.specs.Sets.{gtids_code};
+    ghost use Rattle.rows.specs.Coding.{rows_code};
+    ghost use Rattle.txn_journal.specs.BundleStates.{BundleValue};
+
+    ghost Value = { BundleValue };
+
+    ghost coded = { Prim.hlevel (codes, gtids_code, rows_code) };
+
+    ghost view = { λ old. old.bundle };
+}
+
+impl Text for EarlierBundle {
+    ghost parses = { ParsesBy BeforeThree };
+
+    ghost decoded = { bundle_by BeforeThree };
+
+    ghost full = { λ bytes f h. h };
+
+    type Reader = Vec<u8>;
+
+    ghost has_come = { λ reader bytes. reader.items ≡ bytes };
+
+    fn start(alloc: Global) -> Vec<u8> {
+        Vec::new(alloc)
+    }
+
+    fn feed(_: Global, reader: &mut Vec<u8>, piece: &[u8]) -> Result<(), AllocError> {
+        reader.extend_from_slice(piece)
+    }
+
+    fn finish(alloc: Global, reader: Vec<u8>) -> Result<EarlierBundle, JournalFault> {
+        match decode_bundle_by(alloc, Due::BeforeThree, &reader) {
+            Ok(bundle) => Ok(EarlierBundle { bundle }),
             Err(fault) => Err(fault),
         }
     }

@@ -22,8 +22,22 @@ version_of lines =
 
 -- among the tables
 abbrev pub tables_due : Version → List ℕ
-tables_due Three = codes "table <name> <count> pk <columns> [uk <columns>].. [hidden <count>], row <table> <values>, channel <name> [preserve], or done"
+tables_due Three = codes "table <name> <count> pk <columns> [uk <columns>].. [hidden <count>], fk <name> <columns> <name> <key> [cascade], row <table> <values>, channel <name> [preserve], assume <assumption>, or done"
 tables_due _ = codes "table <name> <count> pk <columns> [uk <columns>].., row <table> <values>, channel <name> [preserve], or done"
+
+-- behind a reference
+abbrev pub references_due : List ℕ
+references_due = codes "fk <name> <columns> <name> <key> [cascade], row <table> <values>, channel <name> [preserve], assume <assumption>, or done"
+
+-- behind a row
+abbrev pub rows_due : Version → List ℕ
+rows_due Three = codes "row <table> <values>, channel <name> [preserve], assume <assumption>, or done"
+rows_due _ = codes "row <table> <values>, channel <name> [preserve], or done"
+
+-- behind a journal
+abbrev pub channels_due : Version → List ℕ
+channels_due Three = codes "channel <name> [preserve], assume <assumption>, or done"
+channels_due _ = codes "channel <name> [preserve], or done"
 
 -- behind the replica
 abbrev pub opening_due : Version → List ℕ
@@ -47,13 +61,15 @@ due_behind version word =
     if bytes_eq word (codes "bundle") then codes "replica <uuid>"
     else if bytes_eq word (codes "replica") then opening_due version
     else if bytes_eq word (codes "opening") || bytes_eq word (codes "table") then tables_due version
-    else if bytes_eq word (codes "row") then codes "row <table> <values>, channel <name> [preserve], or done"
+    else if bytes_eq word (codes "fk") then references_due
+    else if bytes_eq word (codes "row") then rows_due version
     else if bytes_eq word (codes "channel") then journal_due version
     else if bytes_eq word (codes "journal") then codes "previous <set>"
     else if bytes_eq word (codes "previous") || bytes_eq word (codes "end") then entries_due version
     else if bytes_eq word (codes "txn") || (bytes_eq word (codes "ins") || (bytes_eq word (codes "upd") || bytes_eq word (codes "del"))) then
     codes "ins <table> <values>, upd <table> <values> | <values>, del <table> <values>, or end"
-    else if bytes_eq word (codes "close") then codes "channel <name> [preserve], or done"
+    else if bytes_eq word (codes "close") then channels_due version
+    else if bytes_eq word (codes "assume") then codes "assume <assumption>, or done"
     else if bytes_eq word (codes "done") then codes "nothing, for the bundle has ended"
     else codes "bundle 1, bundle 2, or bundle 3"
 

@@ -19,7 +19,9 @@ use Rattle.gtid_report.specs.declared.refusal.Refusal.{Refusal}
 use Rattle.gtid_report.specs.declared.refusal.Refusal.TheVariants.{PoolFull, SourcesFull, Line, Truncated, Twice, Version}
 use Rattle.fault_places.specs.declared.wanted.Wanted.TheVariants.{Every, OfTable, Numbered, Nothing}
 use Rattle.fault_places.specs.Lines.{second_word, word_at, is_table, shorten}
+use Rattle.gtid_report.specs.Assumed.{is_implied}
 use Rattle.fault_places.specs.Places.{line_text, places_of, previous_sets}
+use Rattle.fault_places.specs.AssumedPlaces.{assumed_places}
 use Rattle.fault_places.specs.Next.{next_there}
 use Rattle.fault_places.specs.Due.{line_at, due_at}
 use Rattle.fault_places.specs.Differences.{difference_under}
@@ -68,17 +70,21 @@ row_fault_meaning (RowMissing change key) = codes "  E10: no row has the primary
 row_fault_meaning (RowDiffers change key) = codes "  E11: the row with that primary key is another than the change's before image\n"
 row_fault_meaning (DuplicateKey change key) = codes "  E12: a row has this key of the change's after image already\n"
 
--- what explains a verdict on a bundle, with the other missing GTIDs
+-- what explains a verdict on a bundle that rests on nothing, with the other missing GTIDs
+abbrev pub unconditional : List (List ℕ) → BundleValue → Option Gtids → Verdict → List ℕ
+unconditional lines b gtids (Unequal g) = places_of (gtid_text g) Every lines ++ difference_under g b
+unconditional lines b gtids (Purged i purged) = previous_sets lines
+unconditional lines b gtids (Missing g) = missing_text gtids ++ next_text (next_there b.opened g None b.journals) lines
+unconditional lines b gtids (Shared g h key) = key_explained g h key lines
+unconditional lines b gtids (Reordered g h key) = key_explained g h key lines
+unconditional lines b gtids (Concurrent g h key) = key_explained g h key lines
+unconditional lines b gtids (NotClosed g h) = places_of (gtid_text g) Every lines ++ places_of (gtid_text h) Every lines
+unconditional lines b gtids (DoesNotApply g fault) = row_fault_meaning fault ++ places_of (gtid_text g) (Numbered (row_fault_place fault).0) lines
+unconditional lines b gtids Sound = inverted_text lines b.channels (inverted_pair b)
+
+-- what the verdict rests on, and what explains it
 abbrev pub verdict_explained : List (List ℕ) → BundleValue → Option Gtids → Verdict → List ℕ
-verdict_explained lines b gtids (Unequal g) = places_of (gtid_text g) Every lines ++ difference_under g b
-verdict_explained lines b gtids (Purged i purged) = previous_sets lines
-verdict_explained lines b gtids (Missing g) = missing_text gtids ++ next_text (next_there b.opened g None b.journals) lines
-verdict_explained lines b gtids (Shared g h key) = key_explained g h key lines
-verdict_explained lines b gtids (Reordered g h key) = key_explained g h key lines
-verdict_explained lines b gtids (Concurrent g h key) = key_explained g h key lines
-verdict_explained lines b gtids (NotClosed g h) = places_of (gtid_text g) Every lines ++ places_of (gtid_text h) Every lines
-verdict_explained lines b gtids (DoesNotApply g fault) = row_fault_meaning fault ++ places_of (gtid_text g) (Numbered (row_fault_place fault).0) lines
-verdict_explained lines b gtids Sound = inverted_text lines b.channels (inverted_pair b)
+verdict_explained lines b gtids v = assumed_places (is_implied b) lines ++ unconditional lines b gtids v
 
 -- ---- refusals
 
@@ -90,9 +96,9 @@ due_text n lines = codes "  due here: " ++ due_at lines n ++ codes "\n"
 abbrev pub cause_text : LineCause → ℕ → List (List ℕ) → List ℕ
 cause_text Keyword n lines = due_text n lines
 cause_text Body n lines = due_text n lines
-cause_text Limit n lines = codes "  a limit is passed: columns, unique keys, tables, channels, changes, bytes of a value, values of an image, or entries\n"
+cause_text Limit n lines = codes "  a limit is passed: columns, hidden columns, unique keys, tables, foreign keys, channels, changes, bytes of a value, values of an image, entries, or assumptions\n"
 cause_text Schema n lines =
-    codes "  the tables do not take it: a name twice, a column that is not there, an unknown table, a wrong number of values, a null in the primary key, or a key that a row has already\n"
+    codes "  the lines before do not take it: a name twice, an unknown table, column, key or channel, a wrong number of columns or values, a null in the primary key, or a key that a row has already\n"
 cause_text Stamp n lines = codes "  the sequence number is not the entry's place, or the last_committed is not that of its keys\n"
 
 -- a line with its number

@@ -1,6 +1,7 @@
 pub mod Lines
 pub mod Channels
 pub mod Places
+pub mod AssumedPlaces
 pub mod Next
 pub mod Due
 pub mod Differences

@@ -1,6 +1,6 @@
 //! What is due in a bundle after a line.
 ghost use Rattle.std.specs.Prelude.{◌≡◌, map};
-ghost use Rattle.fault_places.specs.Due.{line_at, word_before, version_of, tables_due, opening_due, journal_due, entries_due, due_behind, due_at};
+ghost use Rattle.fault_places.specs.Due.{line_at, word_before, version_of, tables_due, rows_due, channels_due, opening_due, journal_due, entries_due, due_behind, due_at};
 
 use crate::lines::first_word;
 use txn_journal::Version;
@@ -47,7 +47,32 @@ fn tables_due(version: Version) -> &'static str
         Version::One | Version::Two =>
             "table <name> <count> pk <columns> [uk <columns>].., row <table> <values>, channel <name> [preserve], or done",
         Version::Three =>
-            "table <name> <count> pk <columns> [uk <columns>].. [hidden <count>], row <table> <values>, channel <name> [preserve], or done",
+            "table <name> <count> pk <columns> [uk <columns>].. [hidden <count>], fk <name> <columns> <name> <key> [cascade], row <table> <values>, channel <name> [preserve], assume <assumption>, or done",
+    }
+}
+
+/// The lines that may come behind a reference.
+const REFERENCES_DUE: &str =
+    "fk <name> <columns> <name> <key> [cascade], row <table> <values>, channel <name> [preserve], assume <assumption>, or done";
+
+/// The lines that may come behind a row.
+fn rows_due(version: Version) -> &'static str
+    ensures { result.now ≡ rows_due version }
+{
+    match version {
+        Version::One | Version::Two => "row <table> <values>, channel <name> [preserve], or done",
+        Version::Three =>
+            "row <table> <values>, channel <name> [preserve], assume <assumption>, or done",
+    }
+}
+
+/// The lines that may come behind a journal.
+fn channels_due(version: Version) -> &'static str
+    ensures { result.now ≡ channels_due version }
+{
+    match version {
+        Version::One | Version::Two => "channel <name> [preserve], or done",
+        Version::Three => "channel <name> [preserve], assume <assumption>, or done",
     }
 }
 
@@ -93,8 +118,10 @@ fn due_behind(version: Version, word: &[u8]) -> &'static str
         opening_due(version)
     } else if word == b"opening".as_slice() || word == b"table".as_slice() {
         tables_due(version)
+    } else if word == b"fk".as_slice() {
+        REFERENCES_DUE
     } else if word == b"row".as_slice() {
-        "row <table> <values>, channel <name> [preserve], or done"
+        rows_due(version)
     } else if word == b"channel".as_slice() {
         journal_due(version)
     } else if word == b"journal".as_slice() {
@@ -108,7 +135,9 @@ fn due_behind(version: Version, word: &[u8]) -> &'static str
     {
         "ins <table> <values>, upd <table> <values> | <values>, del <table> <values>, or end"
     } else if word == b"close".as_slice() {
-        "channel <name> [preserve], or done"
+        channels_due(version)
+    } else if word == b"assume".as_slice() {
+        "assume <assumption>, or done"
     } else if word == b"done".as_slice() {
         "nothing, for the bundle has ended"
     } else {

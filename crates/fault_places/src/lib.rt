@@ -10,6 +10,7 @@
 //! a failed allocation a part may have been appended.
 #![tactic(auto)]
 
+mod assumed_places;
 mod channels;
 mod differences;
 mod due;

@@ -34,11 +34,11 @@ fn put_cause(
         LineCause::Body => put_due(out, number, lines),
         LineCause::Limit => put(
             out,
-            "  a limit is passed: columns, unique keys, tables, channels, changes, bytes of a value, values of an image, or entries\n",
+            "  a limit is passed: columns, hidden columns, unique keys, tables, foreign keys, channels, changes, bytes of a value, values of an image, entries, or assumptions\n",
         ),
         LineCause::Schema => put(
             out,
-            "  the tables do not take it: a name twice, a column that is not there, an unknown table, a wrong number of values, a null in the primary key, or a key that a row has already\n",
+            "  the lines before do not take it: a name twice, an unknown table, column, key or channel, a wrong number of columns or values, a null in the primary key, or a key that a row has already\n",
         ),
         LineCause::Stamp => put(
             out,

@@ -5,15 +5,16 @@ ghost use Rattle.gtid_report.specs.Verdicts.{row_fault_place};
 ghost use Rattle.fault_places.specs.declared.wanted.Wanted.TheVariants.{Numbered};
 ghost use Rattle.fault_places.specs.Lines.{lines_of};
 ghost use Rattle.fault_places.specs.Places.{places_of};
-ghost use Rattle.fault_places.specs.Explained.{is_of_key, columns_text, report_columns, columns_from, key_explained, missing_text, next_places, next_text, row_fault_meaning, verdict_explained};
+ghost use Rattle.fault_places.specs.Explained.{is_of_key, columns_text, report_columns, columns_from, key_explained, missing_text, next_places, next_text, row_fault_meaning, unconditional, verdict_explained};
 
+use crate::assumed_places::put_assumed;
 use crate::inverted_text::put_inverted;
 use crate::lines::{is_table, lines_of, put, put_number, put_shown, second_word, word_at};
 use crate::next_there::next_there;
 use crate::places::{put_line, put_places, put_previous_sets};
 use crate::unequal::put_difference;
 use crate::wanted::Wanted;
-use gtid_report::push_set;
+use gtid_report::{is_implied, push_set};
 use gtid_set::GtidSet;
 use gtid_text::{Gtid, write_gtid};
 use itoa::Buffer;
@@ -186,8 +187,8 @@ fn put_row_fault(
     put_gtid(alloc, out, gtid, &Wanted::Numbered(change), lines)
 }
 
-/// What explains a verdict.
-fn put_verdict(
+/// What explains a verdict, but for what it rests on.
+fn put_unconditional(
     alloc: Global,
     out: &mut Vec<u8>,
     lines: &[&[u8]],
@@ -196,7 +197,7 @@ fn put_verdict(
     verdict: &Verdict,
 ) -> Result<(), AllocError>
     requires { length lines.now < 2 ^ 63 }
-    ensures { OnOk result (out.new.items ≡ out.old.items ++ verdict_explained (map (λ x. x.now) lines.now) bundle.now missing.now verdict.now) }
+    ensures { OnOk result (out.new.items ≡ out.old.items ++ unconditional (map (λ x. x.now) lines.now) bundle.now missing.now verdict.now) }
 {
     match verdict {
         Verdict::Unequal(gtid) => {
@@ -221,12 +222,29 @@ fn put_verdict(
     }
 }
 
+/// What a verdict rests on, and what explains it.
+fn put_verdict(
+    alloc: Global,
+    out: &mut Vec<u8>,
+    lines: &[&[u8]],
+    bundle: &Bundle,
+    missing: &Option<GtidSet>,
+    verdict: &Verdict,
+) -> Result<(), AllocError>
+    requires { length lines.now < 2 ^ 63 }
+    ensures { OnOk result (out.new.items ≡ out.old.items ++ verdict_explained (map (λ x. x.now) lines.now) bundle.now missing.now verdict.now) }
+{
+    put_assumed(out, is_implied(bundle), lines)?;
+    put_unconditional(alloc, out, lines, bundle, missing, verdict)
+}
+
 /// What explains a verdict on a bundle, whose text these bytes are: lines, each after two blanks and ended by a line feed. For each GTID
 /// that the verdict names there is each transaction, with its channel and its entry, counted from 0, and its line, counted from 1; after
 /// it its changes: for a shared key those in the key's table, for a row fault the one that has it. If two transactions have one GTID, the
 /// first difference between them follows: the change, the image and the column, counted from 0, and both values. For other missing GTIDs,
 /// where they are given, there is their number and their set. If the bundle is sound but two channels that preserve commit order bring two
-/// transactions in opposite orders, there are the places of both. The words are our own.
+/// transactions in opposite orders, there are the places of both. Where the verdict rests on something that the bundle doesn't show, the
+/// lines that say so come first. The words are our own.
 pub fn explain_verdict(
     alloc: Global,
     bytes: &[u8],

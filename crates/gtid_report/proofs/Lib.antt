@@ -1,3 +1,4 @@
 pub mod AnswerLemmas
 pub mod ImageLemmas
 pub mod ShownRows
+pub mod AssumedLemmas

@@ -5,4 +5,5 @@ pub mod SetAnswers
 pub mod Verdicts
 pub mod State
 pub mod VerdictLines
+pub mod Assumed
 pub mod Positions

@@ -1,6 +1,6 @@
 -- How the program ends: its exit status, and its message on standard error.
 use Rattle.std.specs.Prelude.{ℕ, List, [], Ok, Err, codes, string_bytes}
-use Rattle.commands.specs.declared.edge.Outcome.TheVariants.{Done, Refused, Misused}
+use Rattle.commands.specs.declared.edge.Outcome.TheVariants.{Done, Assumed, Refused, Misused}
 use Rattle.commands.specs.declared.edge.RunFault.TheVariants.{Memory, Read, Write}
 use Rattle.gtidrep.specs.declared.line.CommandFault.TheVariants as line
 use Rattle.gtidrep.specs.declared.ending.Ending.{Ending}
@@ -10,6 +10,7 @@ use Rattle.gtidrep.specs.declared.ending.Ending.TheVariants.{Ran, NoCommand}
 abbrev pub status_of : Ending → ℕ
 status_of (Ran (Ok Done)) = 0
 status_of (Ran (Ok Refused)) = 1
+status_of (Ran (Ok Assumed)) = 5
 status_of (Ran (Ok Misused)) = 2
 status_of (Ran (Err Memory)) = 3
 status_of (Ran (Err Read)) = 4
@@ -26,6 +27,7 @@ functions_text = codes "Functions of one set: normalize, count. Of two sets: uni
 -- refused, the message lists the functions.
 abbrev pub message_of : Ending → List ℕ
 message_of (Ran (Ok Done)) = []
+message_of (Ran (Ok Assumed)) = []
 message_of (Ran (Ok Refused)) = []
 message_of (Ran (Ok Misused)) = functions_text
 message_of (Ran (Err Memory)) = codes "gtidrep: out of memory\n"

@@ -22,6 +22,7 @@ pub fn exit_status(ending: &Ending) -> u8
     match ending {
         Ending::Ran(Ok(Outcome::Done)) => 0,
         Ending::Ran(Ok(Outcome::Refused)) => 1,
+        Ending::Ran(Ok(Outcome::Assumed)) => 5,
         Ending::Ran(Ok(Outcome::Misused)) => 2,
         Ending::Ran(Err(RunFault::Memory)) => 3,
         Ending::Ran(Err(RunFault::Read)) => 4,
@@ -39,6 +40,7 @@ pub fn message(ending: &Ending) -> &str
 {
     match ending {
         Ending::Ran(Ok(Outcome::Done)) => "",
+        Ending::Ran(Ok(Outcome::Assumed)) => "",
         Ending::Ran(Ok(Outcome::Refused)) => "",
         Ending::Ran(Ok(Outcome::Misused)) => FUNCTIONS,
         Ending::Ran(Err(RunFault::Memory)) => "gtidrep: out of memory\n",

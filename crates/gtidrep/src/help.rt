@@ -38,19 +38,20 @@ pub(crate) const AUDIT_EXAMPLE: &str =
 transactions at fault, `missing`, `unequal` and `does-not-apply` one of them, `purged` a journal. With --explain standard
 error shows where these stand: channels, entries, lines and changes; of a line that is refused, the line and what is due.
 With --ordered two sources may write one row, as after a failover: `reordered` and `concurrent` then name two transactions
-that share a key and stand in two orders, or in none.
+that share a key and stand in two orders, or in none. Where a bundle of version 3 assumes something, `sound if` names it.
 
 Example:
   gtidrep audit < examples/ring.bundle
 
-Status: 0 sound, 1 refused, 2 the command line, 3 memory, 4 reading or writing failed.";
+Status: 0 sound, 5 sound if, 1 refused, 2 the command line, 3 memory, 4 reading or writing failed.";
 
 pub(crate) const UPGRADE_EXAMPLE: &str =
-    "Prints the bundle by version 2 of the format: with an empty opening set, its rows in the order in which `apply` prints
-them, and the last_committed and sequence number of each entry.
+    "Prints the bundle by version 2 of the format, or by version 3: with an empty opening set where it was of version 1, its rows
+in the order in which `apply` prints them, and the last_committed and sequence number of each entry.
 
 Example:
   gtidrep upgrade < examples/first.bundle
+  gtidrep upgrade --to 3 < examples/first.bundle
 
 Status: 0 printed, 1 refused, 2 the command line, 3 memory, 4 reading or writing failed.";
 
@@ -83,13 +84,13 @@ pub(crate) const APPLY_EXAMPLE: &str =
     "Prints the executed set and the rows, or the line that answers why the bundle does not apply. `--by replica` does what a
 server does: workers share one replica, and --history shows on standard error what each of them did. `--by merge`, which is
 meant unless it is given, is the fast way to the same answer, by either order and any number of workers: that they agree is
-proved. --ordered is as for `audit`.
+proved. --ordered is as for `audit`. What a bundle assumes is printed first.
 
 Example:
   gtidrep apply --workers 4 < examples/first.bundle
   gtidrep apply --by replica --history --workers 2 < examples/first.bundle
 
-Status: 0 applied, 1 refused, 2 the command line, 3 memory, 4 reading or writing failed.";
+Status: 0 applied, 5 where something is assumed, 1 refused, 2 the command line, 3 memory, 4 reading or writing failed.";
 
 pub(crate) const NO_HISTORY: &str = "error: --history goes with --by replica: a merge has no history
 

@@ -9,7 +9,7 @@ use binlog_bundle::Grants;
 use clap::builder::ValueParser;
 use clap::error::ErrorKind;
 use clap::{Arg, ArgAction, ArgMatches, Error};
-use commands::Way;
+use commands::{Target, Way};
 use serving::Order;
 use std::alloc::{AllocError, Global};
 
@@ -43,8 +43,10 @@ pub enum Command<'a> {
         order: Order,
         listing: Listing,
     },
-    /// A bundle of version 1 from standard input is written by version 2.
-    Upgrade,
+    /// A bundle of a version below from standard input is written by this one.
+    Upgrade {
+        target: Target,
+    },
     /// Servers from standard input are compared.
     States,
     /// A bundle from standard input whose journals are the texts of binary logs is written by version 2, or its refusal is explained.
@@ -159,10 +161,24 @@ fn audit_command<'a>(alloc: Global) -> Result<clap::Command<'a>, AllocError> {
     with_flag(command, ordered_flag(alloc).conflicts_with("all"))
 }
 
-fn upgrade_command<'a>(alloc: Global) -> clap::Command<'a> {
+/// The versions by which a bundle is written, by the words that name them.
+const TARGETS: [&str; 2] = ["2", "3"];
+
+fn to_option<'a>(alloc: Global) -> Arg<'a> {
+    Arg::new(alloc, "to")
+        .long("to")
+        .action(ArgAction::Set)
+        .value_parser(ValueParser::Names(&TARGETS))
+        .help("the version by which the bundle is written: 2 unless it is 3")
+}
+
+fn upgrade_command<'a>(alloc: Global) -> Result<clap::Command<'a>, AllocError> {
     clap::Command::new(alloc, "upgrade")
-        .about("Writes a bundle of version 1 by version 2: upgrade < examples/first.bundle")
+        .about(
+            "Writes a bundle of an earlier version by a later one: upgrade < examples/first.bundle",
+        )
         .after_help(UPGRADE_EXAMPLE)
+        .arg(to_option(alloc))
 }
 
 fn states_command<'a>(alloc: Global) -> clap::Command<'a> {
@@ -274,7 +290,7 @@ fn all_commands<'a>(alloc: Global) -> Result<clap::Command<'a>, AllocError> {
     let program = with_command(program, set_command(alloc))?;
     let program = with_command(program, position_command(alloc))?;
     let program = with_command(program, audit_command(alloc))?;
-    let program = program.subcommand(upgrade_command(alloc))?;
+    let program = with_command(program, upgrade_command(alloc))?;
     let program = program.subcommand(states_command(alloc))?;
     let program = with_command(program, import_command(alloc))?;
     with_command(program, apply_command(alloc))
@@ -324,6 +340,14 @@ fn applying_of<'a>(matches: &ArgMatches<'a>) -> Option<Command<'a>>
     }
 }
 
+/// The version that is asked for: 2 unless it is 3.
+fn target_of(matches: &ArgMatches) -> Target {
+    match matches.get_str("to") {
+        Some("3") => Target::Three,
+        _ => Target::Two,
+    }
+}
+
 fn listing_of(matches: &ArgMatches) -> Listing {
     if matches.get_flag("explain") {
         return Listing::Explained;
@@ -366,7 +390,9 @@ fn command_of<'a>(name: &str, matches: &ArgMatches<'a>) -> Option<Command<'a>>
         });
     }
     if name == "upgrade" {
-        return Some(Command::Upgrade);
+        return Some(Command::Upgrade {
+            target: target_of(matches),
+        });
     }
     if name == "states" {
         return Some(Command::States);

@@ -53,7 +53,7 @@ pub fn run_over<T: Threads + Wait + Sync, S: Source + Send, W: Sink, E: Sink>(
         } => run_set(alloc, function, first, second, streams),
         Command::Position { own, ask } => run_position(alloc, own, ask, streams),
         Command::Audit { order, listing } => run_listing(alloc, order, listing, streams, errors),
-        Command::Upgrade => run_upgrade(alloc, streams),
+        Command::Upgrade { target } => run_upgrade(alloc, target, streams),
         Command::States => run_states(alloc, streams),
         Command::Import {
             grants,

@@ -1,5 +1,5 @@
 //! A reader of bundles that is fed with parsed lines.
-ghost use Rattle.std.specs.Prelude.{◌≡◌, ◌++◌, ◌<◌, ◌≤◌, ℕ, List, None, IfOk, IfErr};
+ghost use Rattle.std.specs.Prelude.{◌≡◌, ◌++◌, ◌<◌, ◌≤◌, ℕ, List, IfOk, IfErr};
 ghost use Rattle.std.specs.List.{concat};
 ghost use Rattle.std.specs.Thread.{IsSync};
 ghost use Rattle.txn_journal.specs.BundleStates.{BundleValue};
@@ -7,6 +7,7 @@ ghost use Rattle.txn_journal.specs.BundleText.{WritesBundle};
 ghost use Rattle.txn_journal.specs.BundleRefused.{RefusesBundle};
 ghost use Rattle.txn_journal.specs.Stream.{IsWhole, IsRead};
 ghost use Rattle.txn_journal.specs.BundleReading.{bundle_start, feed_bundle_bytes, closing_bundle};
+ghost use Rattle.txn_journal.specs.declared.lines.Due.TheVariants.{Any};
 ghost use Rattle.parallel_reading.specs.Coming.{HasCome};
 
 use crate::parts::{cut_block, parse_block};
@@ -151,7 +152,7 @@ pub fn decode_beside<R: Threads + Sync>(
     // A refusal names the first faulty line, and what is wrong with it.
     ensures refused { IfErr result (λ fault. RefusesBundle fault bytes.now) }
     // The same, by the fold over the bytes.
-    ensures exact { IsWhole result (closing_bundle (feed_bundle_bytes (bundle_start None) bytes.now)) }
+    ensures exact { IsWhole result (closing_bundle (feed_bundle_bytes (bundle_start Any) bytes.now)) }
 {
     let reader = fed_beside(rt, alloc, BundleReader::start(alloc), bytes, workers);
     reader.finish()

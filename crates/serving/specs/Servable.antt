@@ -10,7 +10,8 @@ use Rattle.journal.specs.Journals.{JournalValue}
 use Rattle.journal.specs.Writing.{is_number}
 use Rattle.apply_channel.specs.Channels.{ChannelValue, same_name, most_received}
 use Rattle.replica_core.specs.State.{State, Replica}
-use Rattle.txn_journal.specs.BundleStates.{BundleValue, has_channel}
+use Rattle.txn_journal.specs.Assumptions.{has_channel}
+use Rattle.txn_journal.specs.BundleStates.{BundleValue}
 use Rattle.txn_journal.specs.declared.bundle.BundleChannel.{BundleChannel}
 use Rattle.serving.specs.Verdicts.{names_of, names_asked}
 

@@ -13,10 +13,12 @@ use Rattle.txn_journal.specs.BundleCauses.{HasBundleCause}
 use Rattle.txn_journal.specs.declared.fault.Cause.{Cause}
 use Rattle.txn_journal.specs.declared.lines.Version.{Version}
 use Rattle.txn_journal.proofs.Judged.{bind_ok, ok_is}
-use Rattle.txn_journal.proofs.BundleSound.{IsBundleSound, InnerTaken, bundle_taken}
+use Rattle.txn_journal.proofs.BundleSound.{IsBundleSound}
+use Rattle.txn_journal.proofs.BundleTaken.{InnerTaken, bundle_taken}
 use Rattle.txn_journal.proofs.BundleLaws.{ends_at, relisted}
+use Rattle.txn_journal.specs.declared.lines.Due.{Due}
 
-pub come_start : (due : Option Version) → HasCome (no_bundle due)
+pub come_start : (due : Due) → HasCome (no_bundle due)
 come_start due = record { due = due; lines = []; made = refl }
 
 pub come_more : (s t : BundleStanding) (line : List ℕ) → HasCome s → judge_bundle s line ≡ Ok t → HasCome t
@@ -37,7 +39,7 @@ come_text s t text count true h e = come_all s t e.lines h e.made
 come_text s t text count false h e = subst HasCome (sym e) h
 
 -- what lines have made is sound
-come_sound : (due : Option Version) (lines : List (List ℕ)) (s : BundleStanding) → standing_after due lines ≡ Ok s → (rows : List TableRow) × IsBundleSound rows s
+come_sound : (due : Due) (lines : List (List ℕ)) (s : BundleStanding) → standing_after due lines ≡ Ok s → (rows : List TableRow) × IsBundleSound rows s
 come_sound due [] s e = ([], subst (IsBundleSound []) (ok_is (no_bundle due) s e) refl)
 come_sound due (line ∷ earlier) s e =
     let a = bind_ok (standing_after due earlier) (λ x. judge_bundle x line) s e in

@@ -18,7 +18,7 @@ use Rattle.txn_journal.specs.Words.{IsOneLine}
 use Rattle.txn_journal.specs.Formats.{closing_by}
 use Rattle.rows.specs.Listing.{rows_listed}
 use Rattle.rows.specs.declared.limits.Limits.TheVariants.{Narrow}
-use Rattle.txn_journal.specs.Versions.{limits_of, is_numbered, newest}
+use Rattle.txn_journal.specs.Versions.{limits_of, is_named, is_numbered, has_references, IsWide, newest}
 use Rattle.txn_journal.specs.WrittenSets.{IsWrittenSet}
 use Rattle.txn_journal.proofs.ListedRows.{listed_opening}
 use Rattle.txn_journal.specs.Stream.{Progress, Reading, Stopped, Judge}
@@ -26,9 +26,9 @@ use Rattle.txn_journal.specs.Lines.{◌>>=◌, takes, keyword_of}
 use Rattle.txn_journal.specs.Machine.{Standing, empty, is_last, is_within, open_entry, judge}
 use Rattle.txn_journal.specs.Spelling.{Line, End, Close, line_text, journal_lines, IsWritten, IsStamp, AreStamps}
 use Rattle.txn_journal.specs.Shapes.{shape_for}
-use Rattle.txn_journal.specs.BundleStates.{BundleValue, BundleStanding, bare, no_bundle, after_replica, is_due_in, with_opening, put_row, has_channel, join_channel, close_channel, after_inner, is_misstamped, unless_misstamped, judge_own, judge_inner, judge_part, judge_by, judge_bundle, is_done}
+use Rattle.txn_journal.specs.BundleStates.{BundleValue, BundleStanding, bare, no_bundle, after_replica, is_due_in, after_tables as tables_end, with_opening, put_reference, put_row, put_assumption, join_channel, close_channel, after_inner, is_misstamped, unless_misstamped, judge_own, judge_inner, judge_part, judge_by, judge_bundle, is_done}
 use Rattle.txn_journal.specs.BundleReading.{is_inside, is_entry_open, bundles, closing_bundle, IsReadAs}
-use Rattle.txn_journal.specs.BundleText.{OwnLine, BundleLine, Own, Inner, Heads, Names, Starts, Has, Puts, Opens, Done, own_text, bundle_line_text, table_lines, row_lines, channel_lines, channels_lines, opening_set_lines, tables_lines, start_lines, bundle_lines, FitsRow, AreAdded, put_all, AreNamed, IsWrittenIn, AreBrought, IsOpeningSet, bundle_text, spelling_by, IsWrittenBundle, IsBundle, WritesBundleBy, IsLastStamped, AreAlmostStamped, AlmostWritesBundle}
+use Rattle.txn_journal.specs.BundleText.{OwnLine, BundleLine, Own, Inner, Heads, Names, Starts, Has, Refers, Puts, Opens, Assumes, Done, own_text, bundle_line_text, table_lines, reference_lines, row_lines, assumption_lines, channel_lines, channels_lines, opening_set_lines, tables_lines, start_lines, bundle_lines, FitsRow, AreAdded, put_all, AreNamed, IsWrittenIn, AreBrought, IsOpeningSet, bundle_text, spelling_by, IsWrittenBundle, IsBundle, WritesBundleBy, IsLastStamped, AreAlmostStamped, AlmostWritesBundle}
 use Rattle.txn_journal.specs.BundleCauses.{own_word, FitsOwn, own_wording}
 use Rattle.txn_journal.specs.declared.bundle.BundleChannel.{BundleChannel}
 use Rattle.txn_journal.specs.declared.bundle_draft.Part.{Part}
@@ -49,13 +49,21 @@ use Rattle.row_images.specs.Words.{first_word}
 use Rattle.txn_journal.proofs.JournalLaws.{at, AreRight, goes_front, closes_journal, last_entries, last_stamps, some_version, completes_at}
 use Rattle.txn_journal.proofs.ShapeLaws.{allowed, shape_fits, with_again}
 use Rattle.txn_journal.proofs.WordLaws.{judged_again}
+use Rattle.txn_journal.proofs.Referring.{to_again, shape_fits_reference}
+use Rattle.txn_journal.specs.References.{FitsReference, reference_to, reference_shape, IsReference, most_references}
+use Rattle.txn_journal.specs.Assumptions.{FitsAssumption, last_of, may_follow, has_channel, may_assume, most_assumptions, AreInOrder}
+use Rattle.txn_journal.specs.declared.references.Reference.{Reference}
+use Rattle.txn_journal.specs.declared.assumptions.Assumption.{Assumption}
 use Rattle.txn_journal.proofs.OwnReads.{own_body, own_put, own_reads, own_laws, own_one}
 use Rattle.std.proofs.lemmas.Result.{MatchResult-weaker}
 use Rattle.std.specs.FinSet as set
 use Rattle.txn_journal.specs.LinesSoFar.{lines_so_far}
 use Rattle.txn_journal.specs.BundleLinesSoFar.{inner_lines_so_far, bundle_lines_so_far_at, bundle_lines_so_far}
 use Rattle.txn_journal.specs.declared.lines.Version.{Version}
-use Rattle.txn_journal.proofs.BundleSound.{front, IsOpen, OpenChannel, IsDueBundle, SoundAt, IsBundleSound, tables_written, tables_front, channel_written, channel_front, right_front, none_right, version_is, ends_entry, bundle_taken}
+use Rattle.txn_journal.proofs.BundleSound.{front, IsOpen, OpenChannel, IsDueBundle, SoundAt, IsBundleSound, tables_written, tables_front, none_right}
+use Rattle.txn_journal.proofs.BundleTaken.{channel_written, channel_front, right_front, version_is, ends_entry, bundle_taken}
+use Rattle.txn_journal.specs.declared.lines.Due.{Due}
+use Rattle.txn_journal.specs.declared.lines.Due.TheVariants.{Any, Only}
 
 abbrev with_channel : BundleValue → BundleChannel → JournalValue → BundleValue
 with_channel b c j = record b { channels = b.channels ++ c ∷ []; journals = b.journals ++ j ∷ [] }
@@ -71,32 +79,32 @@ IsRight whole version tables earlier stamp e = whole ≡ true → stamp ≡ righ
 abbrev IsOwnPart : Bool → Part → Type 0
 IsOwnPart whole p = (s : BundleStanding) (line : List ℕ) → judge_part p whole s line ≡ judge_own s line
 
-own_goes : (whole : Bool) (s t : BundleStanding) (l : OwnLine) → IsOwnPart whole s.part → is_due_in s.part (own_word l) ≡ true → FitsOwn s.due (limits_of s.version) l → own_put s l ≡ Ok t → Leads (judge_by whole) bundle_line_text s (Own l ∷ []) t
+own_goes : (whole : Bool) (s t : BundleStanding) (l : OwnLine) → IsOwnPart whole s.part → is_due_in s.version s.part (own_word l) ≡ true → FitsOwn s l → own_put s l ≡ Ok t → Leads (judge_by whole) bundle_line_text s (Own l ∷ []) t
 own_goes whole s t l own is fits step =
-    leads_one (judge_by whole) bundle_line_text s t (Own l) (own_one s.due (limits_of s.version) l fits) (own s (own_text l) ∙ own_reads s (own_text l) ∙ judged_again (own_wording s) (own_body s.due (limits_of s.version)) (own_laws s) (own_put s) l is fits ∙ step)
+    leads_one (judge_by whole) bundle_line_text s t (Own l) (own_one s l fits) (own s (own_text l) ∙ own_reads s (own_text l) ∙ judged_again (own_wording s) (own_body s) (own_laws s) (own_put s) l is fits ∙ step)
 
 -- where the tables begin
-abbrev before_tables : Option Version → Version → ℕ → Gtids → BundleStanding
-before_tables due version replica opened = record { part = parts.Tables; due = due; version = version; tables = []; bundle = bare replica opened []; channel = None; draft = empty None }
+abbrev before_tables : Due → Version → ℕ → Gtids → BundleStanding
+before_tables due version replica opened = record { part = parts.Tables; due = due; version = version; tables = []; bundle = bare replica opened []; channel = None; draft = empty Any }
 
-named_goes : (whole : Bool) (due : Option Version) (version : Version) (replica : ℕ) → takes due version ≡ true → IsSource replica → (t : BundleStanding)
-    → t ≡ record { part = after_replica version; due = due; version = version; tables = []; bundle = bare replica set.empty []; channel = None; draft = empty None }
+named_goes : (whole : Bool) (due : Due) (version : Version) (replica : ℕ) → takes due version ≡ true → IsSource replica → (t : BundleStanding)
+    → t ≡ record { part = after_replica version; due = due; version = version; tables = []; bundle = bare replica set.empty []; channel = None; draft = empty Any }
     → Leads (judge_by whole) bundle_line_text (no_bundle due) (Own (Heads version) ∷ Own (Names replica) ∷ []) t
 unfolding own_put
 named_goes whole due version replica is small t e =
-    let one : BundleStanding = record { part = parts.Replica; due = due; version = version; tables = []; bundle = bare 0 set.empty []; channel = None; draft = empty None } in
+    let one : BundleStanding = record { part = parts.Replica; due = due; version = version; tables = []; bundle = bare 0 set.empty []; channel = None; draft = empty Any } in
     leads_both (own_goes whole (no_bundle due) one (Heads version) (λ x line. refl) refl is refl) (own_goes whole one t (Names replica) (λ x line. refl) refl small (ap done (sym e)))
 
 -- where there is a line of the opening set
-opened_goes : (whole : Bool) (due : Option Version) (version : Version) → takes due version ≡ true → (b : BundleValue) → IsSource b.replica → IsWrittenSet b.opened → after_replica version ≡ parts.Opening
+opened_goes : (whole : Bool) (due : Due) (version : Version) → takes due version ≡ true → (b : BundleValue) → IsSource b.replica → IsWrittenSet b.opened → after_replica version ≡ parts.Opening
     → Leads (judge_by whole) bundle_line_text (no_bundle due) (Own (Heads version) ∷ Own (Names b.replica) ∷ Own (Starts b.opened) ∷ []) (before_tables due version b.replica b.opened)
 unfolding own_put
 opened_goes whole due version is b small opened after =
-    let two : BundleStanding = record { part = parts.Opening; due = due; version = version; tables = []; bundle = bare b.replica set.empty []; channel = None; draft = empty None } in
+    let two : BundleStanding = record { part = parts.Opening; due = due; version = version; tables = []; bundle = bare b.replica set.empty []; channel = None; draft = empty Any } in
     let at : two ≡ record two { part = after_replica version } = ap (λ (p : Part). record two { part = p }) (sym after) in
     leads_both (named_goes whole due version b.replica is small two at) (own_goes whole two (before_tables due version b.replica b.opened) (Starts b.opened) (λ x line. refl) refl opened refl)
 
-begins_lines : (whole : Bool) (due : Option Version) (version : Version) → takes due version ≡ true → (b : BundleValue) → IsSource b.replica → IsOpeningSet version b.opened
+begins_lines : (whole : Bool) (due : Due) (version : Version) → takes due version ≡ true → (b : BundleValue) → IsSource b.replica → IsOpeningSet version b.opened
     → Leads (judge_by whole) bundle_line_text (no_bundle due) (Own (Heads version) ∷ Own (Names b.replica) ∷ opening_set_lines version b.opened) (before_tables due version b.replica b.opened)
 unfolding own_put
 begins_lines whole due One is b small opened = named_goes whole due One b.replica is small (before_tables due One b.replica b.opened) (λ i. before_tables due One b.replica (opened i))
@@ -104,7 +112,7 @@ begins_lines whole due Two is b small opened = opened_goes whole due Two is b sm
 begins_lines whole due Three is b small opened = opened_goes whole due Three is b small opened refl
 
 -- entries are looked at as a whole or are not
-module _ (whole : Bool) (due : Option Version) (version : Version) (is_due_version : takes due version ≡ true) where
+module _ (whole : Bool) (due : Due) (version : Version) (is_due_version : takes due version ≡ true) where
   abbrev state : Part → List Table → BundleValue → Option BundleChannel → Standing → BundleStanding
   state part tables b channel draft = record { part = part; due = due; version = version; tables = tables; bundle = b; channel = channel; draft = draft }
 
@@ -114,7 +122,7 @@ module _ (whole : Bool) (due : Option Version) (version : Version) (is_due_versi
   goes_none : (s : BundleStanding) → Goes s [] s
   goes_none s = leads_none (judge_by whole) bundle_line_text s
 
-  goes_own : (s t : BundleStanding) (l : OwnLine) → IsOwnPart whole s.part → is_due_in s.part (own_word l) ≡ true → FitsOwn s.due (limits_of s.version) l → own_put s l ≡ Ok t → Goes s (Own l ∷ []) t
+  goes_own : (s t : BundleStanding) (l : OwnLine) → IsOwnPart whole s.part → is_due_in s.version s.part (own_word l) ≡ true → FitsOwn s l → own_put s l ≡ Ok t → Goes s (Own l ∷ []) t
   goes_own s t l own is fits step = own_goes whole s t l own is fits step
 
   -- ---- tables
@@ -179,68 +187,175 @@ module _ (whole : Bool) (due : Option Version) (version : Version) (is_due_versi
 
   -- the state after whole channels
   abbrev after_channels : BundleValue → BundleStanding
-  after_channels b = state parts.Channels [] b None (empty (Some version))
+  after_channels b = state parts.Channels [] b None (empty (Only version))
 
-  due_itself : (v : Version) → takes (Some v) v ≡ true
+  due_itself : (v : Version) → takes (Only v) v ≡ true
   due_itself One = refl
   due_itself Two = refl
   due_itself Three = refl
 
   goes_journal : (b : BundleValue) (c : BundleChannel) (stamps : List ℕ) (j : JournalValue) → IsWrittenIn (limits_of version) b.start.schema j → FitStamps b.start.schema stamps j
-      → Goes (state parts.Journal [] b (Some c) (empty (Some version))) (map Inner (journal_lines version stamps j)) (after_channels (with_channel b c j))
+      → Goes (state parts.Journal [] b (Some c) (empty (Only version))) (map Inner (journal_lines version stamps j)) (after_channels (with_channel b c j))
   goes_journal b c stamps j w fit =
-      let s = state parts.Journal [] b (Some c) (empty (Some version)) in
+      let s = state parts.Journal [] b (Some c) (empty (Only version)) in
       let tables = b.start.schema in
-      let r = goes_front (Some tables) (Some version) version (judge_by whole) (inside s) (IsRight whole version tables) (λ d e line h more right. inner_on s d e line refl refl h more right) stamps j (due_itself version) w.written fit.0 w.fitting fit.1 in
-      let d = at places.Between (Some version) version j stamps r.seen (length j.entries) r.last r.stamp [] in
+      let r = goes_front (Some tables) (Only version) version (judge_by whole) (inside s) (IsRight whole version tables) (λ d e line h more right. inner_on s d e line refl refl h more right) stamps j (due_itself version) w.written fit.0 w.fitting fit.1 in
+      let d = at places.Between (Only version) version j stamps r.seen (length j.entries) r.last r.stamp [] in
       let last = leads_one (judge_by whole) line_text (inside s d) (after_channels (with_channel b c j)) Close refl (inner_ends s d (placed places.Ended d) (line_text Close) refl refl (closes_journal (Some tables) d) refl (λ within out. absurd cc)) in
       let all = leads_both r.goes last in
       record { whole = inner_whole (journal_lines version stamps j) all.whole; run = ap (runs (judge_by whole) s) (map-map bundle_line_text Inner (journal_lines version stamps j)) ∙ all.run }
 
   -- ---- rows and channels
 
-  -- where a channel may come, the tables end here at the latest, and b has come so far
-  record Late (s : BundleStanding) (b : BundleValue) : Type 0 where
+  abbrev with_reference : BundleValue → Reference → BundleValue
+  with_reference b r = record b { references = b.references ++ r ∷ [] }
+
+  abbrev with_assumption : BundleValue → Assumption → BundleValue
+  with_assumption b a = record b { assumptions = b.assumptions ++ a ∷ [] }
+
+  abbrev ending : BundleValue → Standing → BundleStanding
+  ending b draft = state parts.Ended [] b None draft
+
+  -- where the last line may come, and b has come so far
+  record Closing (s : BundleStanding) (b : BundleValue) : Type 0 where
     own : IsOwnPart whole s.part
     same_due : s.due ≡ due
     same_version : s.version ≡ version
-    channel : is_due_in s.part words.Channel ≡ true
-    done : is_due_in s.part words.Done ≡ true
-    opens : (c : BundleChannel) → length b.channels < 256 → has_channel b.channels c.name ≡ false → own_put s (Opens c) ≡ Ok (state parts.Journal [] b (Some c) (empty (Some version)))
-    ends : own_put s Done ≡ Ok (state parts.Ended [] b None s.draft)
+    assume : has_references version ≡ true → is_due_in s.version s.part words.Assume ≡ true
+    done : is_due_in s.version s.part words.Done ≡ true
+    assumptions : (tables_end s).bundle.assumptions ≡ b.assumptions
+    assumes : (a : Assumption) → length b.assumptions < most_assumptions → may_assume b.start.schema b.channels a ≡ true → own_put s (Assumes a) ≡ Ok (state parts.Assumptions [] (with_assumption b a) None s.draft)
+    ends : own_put s Done ≡ Ok (ending b s.draft)
+
+  -- where a channel may come too, the tables end here at the latest
+  record Late (s : BundleStanding) (b : BundleValue) : Type 0 where
+    closing : Closing s b
+    channel : is_due_in s.version s.part words.Channel ≡ true
+    opens : (c : BundleChannel) → length b.channels < 256 → has_channel b.channels c.name ≡ false → own_put s (Opens c) ≡ Ok (state parts.Journal [] b (Some c) (empty (Only version)))
 
   -- where a row may come too
   record Early (s : BundleStanding) (b : BundleValue) : Type 0 where
     late : Late s b
-    row : is_due_in s.part words.Row ≡ true
+    row : is_due_in s.version s.part words.Row ≡ true
     puts : (r : TableRow) (rows : Rows) → is_image_writable (limits_of version) r.row ≡ true → with_opening b.start r ≡ Ok rows → own_put s (Puts r) ≡ Ok (state parts.Rows [] (with_rows b rows) None s.draft)
 
-  after_tables : (replica : ℕ) (opened : Gtids) (ts : List Table) (draft : Standing) → Early (state parts.Tables ts (bare replica opened []) None draft) (bare replica opened ts)
+  -- where a reference may come too
+  record First (s : BundleStanding) (b : BundleValue) : Type 0 where
+    early : Early s b
+    reference : has_references version ≡ true → is_due_in s.version s.part words.Reference ≡ true
+    refers : (r : Reference) → length b.references < most_references → reference_to b.start.schema (reference_shape r) ≡ Ok r → own_put s (Refers (reference_shape r)) ≡ Ok (state parts.References [] (with_reference b r) None s.draft)
+
+  assumes_after : (s : BundleStanding) (b : BundleValue) (a : Assumption) → tables_end s ≡ record (tables_end s) { bundle = b } → length b.assumptions < most_assumptions → may_assume b.start.schema b.channels a ≡ true
+      → put_assumption (tables_end s) a ≡ Ok (record (tables_end s) { part = parts.Assumptions; bundle = with_assumption b a })
+  unfolding put_assumption
+  assumes_after s b a is room may = ap (λ (x : BundleStanding). put_assumption x a) is ∙ rw (lt-leb most_assumptions (length b.assumptions) room, may) refl
+
+  refers_after : (s : BundleStanding) (b : BundleValue) (r : Reference) → tables_end s ≡ record (tables_end s) { bundle = b } → length b.references < most_references → reference_to b.start.schema (reference_shape r) ≡ Ok r
+      → put_reference (tables_end s) (reference_shape r) ≡ Ok (record (tables_end s) { part = parts.References; bundle = with_reference b r })
+  unfolding put_reference
+  refers_after s b r is room e = ap (λ (x : BundleStanding). put_reference x (reference_shape r)) is ∙ rw (lt-leb most_references (length b.references) room, e) refl
+
+  after_tables : (replica : ℕ) (opened : Gtids) (ts : List Table) (draft : Standing) → First (state parts.Tables ts (bare replica opened []) None draft) (bare replica opened ts)
   unfolding own_put join_channel put_row
-  after_tables replica opened ts draft = record { late = record { own = λ x line. refl; same_due = refl; same_version = refl; channel = refl; done = refl; opens = λ c room new. refl; ends = refl }; row = refl; puts = λ r rows writable e. rw (writable, e) refl }
+  after_tables replica opened ts draft =
+      let s = state parts.Tables ts (bare replica opened []) None draft in
+      let b = bare replica opened ts in
+      record {
+        early = record {
+          late = record {
+            closing = record { own = λ x line. refl; same_due = refl; same_version = refl; assume = λ e. e; done = refl; assumptions = refl; assumes = λ a room may. assumes_after s b a refl room may; ends = refl };
+            channel = refl;
+            opens = λ c room new. refl;
+          };
+          row = refl;
+          puts = λ r rows writable e. rw (writable, e) refl;
+        };
+        reference = λ e. e;
+        refers = λ r room e. refers_after s b r refl room e;
+      }
+
+  after_references : (b : BundleValue) (draft : Standing) → First (state parts.References [] b None draft) b
+  unfolding own_put join_channel put_row
+  after_references b draft =
+      let s = state parts.References [] b None draft in
+      record {
+        early = record {
+          late = record {
+            closing = record { own = λ x line. refl; same_due = refl; same_version = refl; assume = λ e. e; done = refl; assumptions = refl; assumes = λ a room may. assumes_after s b a refl room may; ends = refl };
+            channel = refl;
+            opens = λ c room new. rw (lt-leb 256 (length b.channels) room, new) refl;
+          };
+          row = refl;
+          puts = λ r rows writable e. rw (writable, e) refl;
+        };
+        reference = λ e. e;
+        refers = λ r room e. refers_after s b r refl room e;
+      }
 
   after_rows : (b : BundleValue) (draft : Standing) → Early (state parts.Rows [] b None draft) b
   unfolding own_put join_channel put_row
-  after_rows b draft = record { late = record { own = λ x line. refl; same_due = refl; same_version = refl; channel = refl; done = refl; opens = λ c room new. rw (lt-leb 256 (length b.channels) room, new) refl; ends = refl }; row = refl; puts = λ r rows writable e. rw (writable, e) refl }
+  after_rows b draft =
+      let s = state parts.Rows [] b None draft in
+      record {
+        late = record {
+          closing = record { own = λ x line. refl; same_due = refl; same_version = refl; assume = λ e. e; done = refl; assumptions = refl; assumes = λ a room may. assumes_after s b a refl room may; ends = refl };
+          channel = refl;
+          opens = λ c room new. rw (lt-leb 256 (length b.channels) room, new) refl;
+        };
+        row = refl;
+        puts = λ r rows writable e. rw (writable, e) refl;
+      }
 
   after_channel : (b : BundleValue) → Late (after_channels b) b
   unfolding own_put join_channel
-  after_channel b = record { own = λ x line. refl; same_due = refl; same_version = refl; channel = refl; done = refl; opens = λ c room new. rw (lt-leb 256 (length b.channels) room, new) refl; ends = refl }
+  after_channel b = record {
+    closing = record { own = λ x line. refl; same_due = refl; same_version = refl; assume = λ e. e; done = refl; assumptions = refl; assumes = λ a room may. assumes_after (after_channels b) b a refl room may; ends = refl };
+    channel = refl;
+    opens = λ c room new. rw (lt-leb 256 (length b.channels) room, new) refl;
+  }
+
+  after_assumption : (b : BundleValue) (draft : Standing) → Closing (state parts.Assumptions [] b None draft) b
+  unfolding own_put
+  after_assumption b draft = record { own = λ x line. refl; same_due = refl; same_version = refl; assume = λ e. e; done = refl; assumptions = refl; assumes = λ a room may. assumes_after (state parts.Assumptions [] b None draft) b a refl room may; ends = refl }
 
   -- lines after which b has come so far
-  record Brings (s : BundleStanding) (ls : List BundleLine) (b : BundleValue) : Type 0 where
+  record Brings (Is : BundleStanding → BundleValue → Type 0) (s : BundleStanding) (ls : List BundleLine) (b : BundleValue) : Type 0 where
     last : BundleStanding
-    late : Late last b
+    is : Is last b
     goes : Goes s ls last
 
-  brings_rows : (s : BundleStanding) (b : BundleValue) (rs : List TableRow) (new : Rows) → Early s b → AllByRecursion (FitsRow (limits_of version)) rs → list_all (λ r. is_image_writable (limits_of version) r.row) rs ≡ true → put_all b.start rs ≡ Ok new → Brings s (row_lines rs) (with_rows b new)
-  brings_rows s b [] new early fit writable e = record { last = s; late = subst (λ (x : Rows). Late s (with_rows b x)) (ok_is b.start.rows new e) early.late; goes = goes_none s }
+  -- ---- references
+
+  has_wide : (v : Version) → IsWide (limits_of v) → has_references v ≡ true
+  has_wide Three wide = refl
+  has_wide One wide = absurd wide
+  has_wide Two wide = absurd wide
+
+  abbrev with_references : BundleValue → List Reference → BundleValue
+  with_references b rs = record b { references = b.references ++ rs }
+
+  brings_references : (s : BundleStanding) (b : BundleValue) (rs : List Reference) → First s b → AreAdded (limits_of version) [] b.start.schema → length b.references + length rs ≤ most_references → AllByRecursion (IsReference (limits_of version) b.start.schema) rs → Brings Early s (reference_lines rs) (with_references b rs)
+  brings_references s b [] first added few each = record { last = s; is = subst (Early s) (λ i. record b { references = sym (append-nil b.references) i }) first.early; goes = goes_none s }
+  brings_references s b (r ∷ rs) first added few each =
+      let closing = first.early.late.closing in
+      let u = state parts.References [] (with_reference b r) None s.draft in
+      let wide = has_wide version each.0.wide in
+      let fits : FitsOwn s (Refers (reference_shape r)) = subst (λ (v : Version). FitsReference (limits_of v) (reference_shape r)) (sym closing.same_version) (shape_fits_reference (limits_of version) b.start.schema r added each.0) in
+      let one : Goes s (Own (Refers (reference_shape r)) ∷ []) u = goes_own s u (Refers (reference_shape r)) closing.own (first.reference wide) fits (first.refers r (omega (arith, few)) (to_again (limits_of version) b.start.schema r added each.0)) in
+      let more = brings_references u (with_reference b r) rs (after_references (with_reference b r) s.draft) added (omega (arith, few, length-append b.references (r ∷ []))) each.1 in
+      record { last = more.last; is = subst (Early more.last) (λ i. record b { references = append_assoc b.references (r ∷ []) rs i }) more.is; goes = leads_both one more.goes }
+
+  -- ---- rows
+
+  brings_rows : (s : BundleStanding) (b : BundleValue) (rs : List TableRow) (new : Rows) → Early s b → AllByRecursion (FitsRow (limits_of version)) rs → list_all (λ r. is_image_writable (limits_of version) r.row) rs ≡ true → put_all b.start rs ≡ Ok new → Brings Late s (row_lines rs) (with_rows b new)
+  brings_rows s b [] new early fit writable e = record { last = s; is = subst (λ (x : Rows). Late s (with_rows b x)) (ok_is b.start.rows new e) early.late; goes = goes_none s }
   brings_rows s b (r ∷ rs) new early fit writable e =
       let p = and_parts (is_image_writable (limits_of version) r.row) (list_all (λ r. is_image_writable (limits_of version) r.row) rs) writable in
       let a = bind_ok (with_opening b.start r) (λ rows. put_all (record b.start { rows = rows }) rs) new e in
       let u = state parts.Rows [] (with_rows b a.0) None s.draft in
       let more = brings_rows u (with_rows b a.0) rs new (after_rows (with_rows b a.0) s.draft) fit.1 p.1 a.2 in
-      record { last = more.last; late = more.late; goes = leads_both (goes_own s u (Puts r) early.late.own early.row (subst (λ (v : Version). FitsOwn s.due (limits_of v) (Puts r)) (sym early.late.same_version) fit.0) (early.puts r a.0 p.0 a.1)) more.goes }
+      let fits : FitsOwn s (Puts r) = subst (λ (v : Version). FitsRow (limits_of v) r) (sym early.late.closing.same_version) fit.0 in
+      record { last = more.last; is = more.is; goes = leads_both (goes_own s u (Puts r) early.late.closing.own early.row fits (early.puts r a.0 p.0 a.1)) more.goes }
 
   -- the numbers of each journal
   abbrev AllFitStamps : List Table → List (List ℕ) → List JournalValue → Type 0
@@ -252,29 +367,51 @@ module _ (whole : Bool) (due : Option Version) (version : Version) (is_due_versi
   with_channels b cs js = record b { channels = b.channels ++ cs; journals = b.journals ++ js }
 
   brings_channels : (s : BundleStanding) (b : BundleValue) (cs : List BundleChannel) (all : List (List ℕ)) (js : List JournalValue) → Late s b → AreNamed (limits_of version) b.channels cs → length b.channels + length cs ≤ 256 → AreBrought (limits_of version) b.start.schema cs js → AllFitStamps b.start.schema all js
-      → Brings s (channels_lines version cs all js) (with_channels b cs js)
-  brings_channels s b [] [] [] late named few brought fit = record { last = s; late = subst (Late s) (λ i. record b { channels = sym (append-nil b.channels) i; journals = sym (append-nil b.journals) i }) late; goes = goes_none s }
+      → Brings Late s (channels_lines version cs all js) (with_channels b cs js)
+  brings_channels s b [] [] [] late named few brought fit = record { last = s; is = subst (Late s) (λ i. record b { channels = sym (append-nil b.channels) i; journals = sym (append-nil b.journals) i }) late; goes = goes_none s }
   brings_channels s b (c ∷ cs) (stamps ∷ all) (j ∷ js) late named few brought fit =
-      let t = state parts.Journal [] b (Some c) (empty (Some version)) in
+      let t = state parts.Journal [] b (Some c) (empty (Only version)) in
       let d = with_channel b c j in
-      let opened : Goes s (Own (Opens c) ∷ []) t = goes_own s t (Opens c) late.own late.channel (subst (λ (v : Version). FitsOwn s.due (limits_of v) (Opens c)) (sym late.same_version) named.0) (late.opens c (omega arith) named.1) in
+      let opened : Goes s (Own (Opens c) ∷ []) t = goes_own s t (Opens c) late.closing.own late.channel (subst (λ (v : Version). is_named (limits_of v) c.name ≡ true) (sym late.closing.same_version) named.0) (late.opens c (omega arith) named.1) in
       let one : Goes s (channel_lines version c stamps j) (after_channels d) = leads_both opened (goes_journal b c stamps j brought.0 fit.0) in
       let more = brings_channels (after_channels d) d cs all js (after_channel d) named.2 (omega (arith, few, length-append b.channels (c ∷ []))) brought.1 fit.1 in
       let same : with_channels d cs js ≡ with_channels b (c ∷ cs) (j ∷ js) = λ i. record b { channels = append_assoc b.channels (c ∷ []) cs i; journals = append_assoc b.journals (j ∷ []) js i } in
-      record { last = more.last; late = subst (Late more.last) same more.late; goes = leads_both one more.goes }
+      record { last = more.last; is = subst (Late more.last) same more.is; goes = leads_both one more.goes }
   brings_channels s b [] all (j ∷ js) late named few brought fit = absurd brought
   brings_channels s b (c ∷ cs) [] (j ∷ js) late named few brought fit = absurd fit
   brings_channels s b (c ∷ cs) all [] late named few brought fit = absurd brought
   brings_channels s b [] (stamps ∷ all) [] late named few brought fit = absurd fit
 
+  -- ---- assumptions
+
+  abbrev with_assumptions : BundleValue → List Assumption → BundleValue
+  with_assumptions b said = record b { assumptions = b.assumptions ++ said }
+
+  brings_assumptions : (s : BundleStanding) (b : BundleValue) (said : List Assumption) → Closing s b → length b.assumptions + length said ≤ most_assumptions → AreInOrder (limits_of version) b.start.schema b.channels b.assumptions said → Brings Closing s (assumption_lines said) (with_assumptions b said)
+  brings_assumptions s b [] closing few order = record { last = s; is = subst (Closing s) (λ i. record b { assumptions = sym (append-nil b.assumptions) i }) closing; goes = goes_none s }
+  brings_assumptions s b (a ∷ said) closing few order =
+      let u = state parts.Assumptions [] (with_assumption b a) None s.draft in
+      let follows : may_follow (last_of (tables_end s).bundle.assumptions) a ≡ true = subst (λ (x : List Assumption). may_follow (last_of x) a ≡ true) (sym closing.assumptions) order.2 in
+      let fits : FitsOwn s (Assumes a) = (subst (λ (v : Version). FitsAssumption (limits_of v) a) (sym closing.same_version) order.1, follows) in
+      let one : Goes s (Own (Assumes a) ∷ []) u = goes_own s u (Assumes a) closing.own (closing.assume (has_wide version order.0)) fits (closing.assumes a (omega (arith, few)) order.3) in
+      let more = brings_assumptions u (with_assumption b a) said (after_assumption (with_assumption b a) s.draft) (omega (arith, few, length-append b.assumptions (a ∷ []))) order.4 in
+      record { last = more.last; is = subst (Closing more.last) (λ i. record b { assumptions = append_assoc b.assumptions (a ∷ []) said i }) more.is; goes = leads_both one more.goes }
+
   -- ---- the whole
 
   -- the lines of a bundle, part by part
-  parts_of_lines : (rows : List TableRow) (all : List (List ℕ)) (b : BundleValue) → bundle_lines version rows all b ≡ (Own (Heads version) ∷ Own (Names b.replica) ∷ opening_set_lines version b.opened) ++ (table_lines b.start.schema ++ (row_lines rows ++ (channels_lines version b.channels all b.journals ++ Own Done ∷ [])))
+  parts_of_lines : (rows : List TableRow) (all : List (List ℕ)) (b : BundleValue) → bundle_lines version rows all b
+      ≡ (Own (Heads version) ∷ Own (Names b.replica) ∷ opening_set_lines version b.opened) ++ (table_lines b.start.schema ++ (reference_lines b.references ++ (row_lines rows ++ (channels_lines version b.channels all b.journals ++ (assumption_lines b.assumptions ++ Own Done ∷ [])))))
   parts_of_lines rows all b =
-      append_assoc (start_lines version rows b) (channels_lines version b.channels all b.journals) (Own Done ∷ [])
-      ∙ append_assoc (tables_lines version b.replica b.opened b.start.schema) (row_lines rows) (channels_lines version b.channels all b.journals ++ Own Done ∷ [])
-      ∙ append_assoc (Own (Heads version) ∷ Own (Names b.replica) ∷ opening_set_lines version b.opened) (table_lines b.start.schema) (row_lines rows ++ (channels_lines version b.channels all b.journals ++ Own Done ∷ []))
+      let head : List BundleLine = Own (Heads version) ∷ Own (Names b.replica) ∷ opening_set_lines version b.opened in
+      let tables = table_lines b.start.schema in
+      let references = reference_lines b.references in
+      let end : List BundleLine = assumption_lines b.assumptions ++ Own Done ∷ [] in
+      let behind = channels_lines version b.channels all b.journals ++ end in
+      append_assoc (start_lines version rows b) (channels_lines version b.channels all b.journals) end
+      ∙ append_assoc (head ++ tables) (references ++ row_lines rows) behind
+      ∙ append_assoc head tables ((references ++ row_lines rows) ++ behind)
+      ∙ ap (λ (ls : List BundleLine). head ++ (tables ++ ls)) (append_assoc references (row_lines rows) behind)
 
   -- its lines are read to their end
   pub record ReadsLines (rows : List TableRow) (all : List (List ℕ)) (b : BundleValue) : Type 0 where
@@ -286,18 +423,22 @@ module _ (whole : Bool) (due : Option Version) (version : Version) (is_due_versi
   pub reads_lines : (rows : List TableRow) (all : List (List ℕ)) (b : BundleValue) → IsWrittenBundle version rows b → AllFitStamps b.start.schema all b.journals → ReadsLines rows all b
   unfolding own_put
   reads_lines rows all b w fit =
-      let d = empty None in
+      let d = empty Any in
       let ts = b.start.schema in
       let two = state parts.Tables [] (bare b.replica b.opened []) None d in
       let three = state parts.Tables ts (bare b.replica b.opened []) None d in
       let tables : Goes two (table_lines ts) three = goes_tables (bare b.replica b.opened []) d [] ts w.tables in
-      let put = brings_rows three (bare b.replica b.opened ts) rows b.start.rows (after_tables b.replica b.opened ts d) w.opening.fit w.opening.writable w.opening.put in
-      let channels = brings_channels put.last (with_rows (bare b.replica b.opened ts) b.start.rows) b.channels all b.journals put.late w.named (omega (arith, w.few)) w.brought fit in
-      let six = state parts.Ended [] b None channels.last.draft in
-      let ends : Goes channels.last (Own Done ∷ []) six = goes_own channels.last six Done channels.late.own channels.late.done tt channels.late.ends in
+      let start = bare b.replica b.opened ts in
+      let references = brings_references three start b.references (after_tables b.replica b.opened ts d) w.tables (omega (arith, w.references.few)) w.references.each in
+      let referred = with_references start b.references in
+      let put = brings_rows references.last referred rows b.start.rows references.is w.opening.fit w.opening.writable w.opening.put in
+      let channels = brings_channels put.last (with_rows referred b.start.rows) b.channels all b.journals put.is w.named (omega (arith, w.few)) w.brought fit in
+      let assumed = brings_assumptions channels.last (with_channels (with_rows referred b.start.rows) b.channels b.journals) b.assumptions channels.is.closing (omega (arith, w.assumed.few)) w.assumed.each in
+      let six = ending b assumed.last.draft in
+      let ends : Goes assumed.last (Own Done ∷ []) six = goes_own assumed.last six Done assumed.is.own assumed.is.done tt assumed.is.ends in
       record {
         last = six;
-        goes = subst (λ (ls : List BundleLine). Goes (no_bundle due) ls six) (sym (parts_of_lines rows all b)) (leads_both (begins_lines whole due version is_due_version b w.replica w.opened) (leads_both tables (leads_both put.goes (leads_both channels.goes ends))));
+        goes = subst (λ (ls : List BundleLine). Goes (no_bundle due) ls six) (sym (parts_of_lines rows all b)) (leads_both (begins_lines whole due version is_due_version b w.replica w.opened) (leads_both tables (leads_both references.goes (leads_both put.goes (leads_both channels.goes (leads_both assumed.goes ends))))));
         done = refl;
         value = refl;
       }
@@ -346,7 +487,7 @@ any_are_right version tables place earlier (l ∷ ls) (e ∷ es) h = (λ w. absu
 any_are_right version tables place earlier [] (e ∷ es) h = absurd h
 any_are_right version tables place earlier (l ∷ ls) [] h = absurd h
 
-all_right : (whole : Bool) (due : Option Version) (version : Version) (is : takes due version ≡ true) (tables : List Table) (js : List JournalValue) → AllFitStamps whole due version is tables (all_stamps version tables js) js
+all_right : (whole : Bool) (due : Due) (version : Version) (is : takes due version ≡ true) (tables : List Table) (js : List JournalValue) → AllFitStamps whole due version is tables (all_stamps version tables js) js
 all_right whole due version is tables [] = tt
 all_right whole due version is tables (j ∷ js) = ((right_are_stamps version tables j.entries, right_are_right whole version tables j.entries), all_right whole due version is tables js)
 
@@ -357,12 +498,12 @@ last_are_stamps version tables stamps es h =
     (subst (λ (x : List Entry). AreStamps version 1 (right_stamps version tables h.earlier ++ h.stamp ∷ []) x) (sym h.entries)
     (stamps_more version 1 (right_stamps version tables h.earlier) h.earlier h.stamp h.last (right_are_stamps version tables h.earlier) (subst (λ (n : ℕ). IsStamp version n h.stamp) at h.is_stamp)))
 
-almost_fit_at : (due : Option Version) (version : Version) (is : takes due version ≡ true) (tables : List Table) (earlier : List JournalValue) (last : JournalValue) (stamps : List ℕ) → AreStamps version 1 stamps last.entries
+almost_fit_at : (due : Due) (version : Version) (is : takes due version ≡ true) (tables : List Table) (earlier : List JournalValue) (last : JournalValue) (stamps : List ℕ) → AreStamps version 1 stamps last.entries
     → AllFitStamps false due version is tables (all_stamps version tables earlier ++ stamps ∷ []) (earlier ++ last ∷ [])
 almost_fit_at due version is tables [] last stamps fit = ((fit, any_are_right version tables 1 [] stamps last.entries fit), tt)
 almost_fit_at due version is tables (j ∷ js) last stamps fit = ((right_are_stamps version tables j.entries, right_are_right false version tables j.entries), almost_fit_at due version is tables js last stamps fit)
 
-almost_fit : (due : Option Version) (version : Version) (is : takes due version ≡ true) (tables : List Table) (all : List (List ℕ)) (js : List JournalValue) → AreAlmostStamped version tables all js → AllFitStamps false due version is tables all js
+almost_fit : (due : Due) (version : Version) (is : takes due version ≡ true) (tables : List Table) (all : List (List ℕ)) (js : List JournalValue) → AreAlmostStamped version tables all js → AllFitStamps false due version is tables all js
 almost_fit due version is tables all js h =
     subst (λ (x : List (List ℕ)). AllFitStamps false due version is tables x js) (sym h.all)
     (subst (λ (x : List JournalValue). AllFitStamps false due version is tables (all_stamps version tables h.earlier ++ h.last_stamps ∷ []) x) (sym h.journals)
@@ -374,7 +515,7 @@ judge_is : judge_bundle ≡ judge_by true
 unfolding judge_bundle
 judge_is = refl
 
-reads_strictly : (due : Option Version) (bytes : List ℕ) (b : BundleValue) → WritesBundleBy due bytes b → Reads (bundles due) (judge_by true) bytes b
+reads_strictly : (due : Due) (bytes : List ℕ) (b : BundleValue) → WritesBundleBy due bytes b → Reads (bundles due) (judge_by true) bytes b
 reads_strictly due bytes b w =
     let version = w.0 in
     let k = w.2 in
@@ -382,10 +523,10 @@ reads_strictly due bytes b w =
     let r = reads_lines true due version w.1 k.rows all b k.written (all_right true due version w.1 b.start.schema b.journals) in
     record { lines = bundle_lines version k.rows all b; last = r.last; parts = k.text; leads = r.goes; done = r.done; value = r.value }
 
-pub reads_bundle : (due : Option Version) (bytes : List ℕ) (b : BundleValue) → WritesBundleBy due bytes b → Reads (bundles due) judge_bundle bytes b
+pub reads_bundle : (due : Due) (bytes : List ℕ) (b : BundleValue) → WritesBundleBy due bytes b → Reads (bundles due) judge_bundle bytes b
 reads_bundle due bytes b w = subst (λ (j : Judge BundleStanding). Reads (bundles due) j bytes b) (sym judge_is) (reads_strictly due bytes b w)
 
-reads_almost : (due : Option Version) (bytes : List ℕ) (b : BundleValue) → AlmostWritesBundle due bytes b → Reads (bundles due) (judge_by false) bytes b
+reads_almost : (due : Due) (bytes : List ℕ) (b : BundleValue) → AlmostWritesBundle due bytes b → Reads (bundles due) (judge_by false) bytes b
 reads_almost due bytes b w =
     let version = w.0 in
     let k = w.2 in
@@ -442,10 +583,10 @@ refuses rows s line c h e inside = part_refuses s.part rows s line c h e inside
 
 -- ---- what has been read can be gone on with
 
-goes_on : (due : Option Version) (version : Version) (ls more : List BundleLine) (rows : List TableRow) (b : BundleValue) → takes due version ≡ true → IsWrittenBundle version rows b → bundle_lines version rows (all_stamps version b.start.schema b.journals) b ≡ ls ++ more → CanGoOn (bundles due) false ls
+goes_on : (due : Due) (version : Version) (ls more : List BundleLine) (rows : List TableRow) (b : BundleValue) → takes due version ≡ true → IsWrittenBundle version rows b → bundle_lines version rows (all_stamps version b.start.schema b.journals) b ≡ ls ++ more → CanGoOn (bundles due) false ls
 goes_on due version ls more rows b is w e = record { value = b; more = more; writes = (version, is, record { rows = rows; written = w; text = ap bundle_text (sym e) }) }
 
-goes_on_almost : (due : Option Version) (version : Version) (ls more : List BundleLine) (rows : List TableRow) (all : List (List ℕ)) (b : BundleValue) → takes due version ≡ true → IsWrittenBundle version rows b → AreAlmostStamped version b.start.schema all b.journals → bundle_lines version rows all b ≡ ls ++ more → CanGoOn (bundles due) true ls
+goes_on_almost : (due : Due) (version : Version) (ls more : List BundleLine) (rows : List TableRow) (all : List (List ℕ)) (b : BundleValue) → takes due version ≡ true → IsWrittenBundle version rows b → AreAlmostStamped version b.start.schema all b.journals → bundle_lines version rows all b ≡ ls ++ more → CanGoOn (bundles due) true ls
 goes_on_almost due version ls more rows all b is w almost e = record { value = b; more = more; writes = (version, is, record { rows = rows; stamps = all; written = w; stamped = almost; text = ap bundle_text (sym e) }) }
 
 empty_opening : (version : Version) → IsOpeningSet version set.empty
@@ -464,9 +605,9 @@ right_at version tables places.Within d out e = absurd cc
 right_at version tables place d out e = e
 
 -- and where one is
-last_at : (version : Version) (tables : List Table) (place : LinePlace) (d : Standing) → is_within place ≡ true → Sound_at (Some tables) place d → d.due ≡ Some version → d.stamps ≡ right_stamps version tables d.journal.entries → IsLastStamped version tables (last_stamps place d) (last_entries place d)
+last_at : (version : Version) (tables : List Table) (place : LinePlace) (d : Standing) → is_within place ≡ true → Sound_at (Some tables) place d → d.due ≡ Only version → d.stamps ≡ right_stamps version tables d.journal.entries → IsLastStamped version tables (last_stamps place d) (last_entries place d)
 last_at version tables places.Within d within h due e =
-    let is : d.version ≡ version = version_is version d.version (subst (λ (x : Option Version). takes x d.version ≡ true) due h.whole.due) in
+    let is : d.version ≡ version = version_is version d.version (subst (λ (x : Due). takes x d.version ≡ true) due h.whole.due) in
     record {
       earlier = d.journal.entries;
       last = open_entry d;
@@ -477,21 +618,22 @@ last_at version tables places.Within d within h due e =
     }
 last_at version tables place d within h due e = absurd cc
 
-begins_inside : (due : Option Version) (version : Version) (rows : List TableRow) (b : BundleValue) (c : BundleChannel) (draft : Standing) → IsDueBundle due version rows b → IsOpen version b c draft → CanGoOn (bundles due) (is_within draft.place) (front version rows b ++ (Own (Opens c) ∷ map Inner (lines_so_far draft)))
+begins_inside : (due : Due) (version : Version) (rows : List TableRow) (b : BundleValue) (c : BundleChannel) (draft : Standing) → IsDueBundle due version rows b → IsOpen version b c draft → CanGoOn (bundles due) (is_within draft.place) (front version rows b ++ (Own (Opens c) ∷ map Inner (lines_so_far draft)))
 begins_inside due version rows b c draft w o =
     let tables = b.start.schema in
     let k = completes_at (Some tables) draft.place draft o.sound in
-    let is : k.version ≡ version = version_is version k.version (subst (λ (x : Option Version). takes x k.version ≡ true) o.same_version k.takes_version) in
+    let is : k.version ≡ version = version_is version k.version (subst (λ (x : Due). takes x k.version ≡ true) o.same_version k.takes_version) in
     let stamps = last_stamps draft.place draft in
     let inside = Own (Opens c) ∷ map Inner (lines_so_far draft) in
     let before = front version rows b in
-    let more = map Inner k.more ++ Own Done ∷ [] in
+    let end : List BundleLine = assumption_lines b.assumptions ++ Own Done ∷ [] in
+    let more = map Inner k.more ++ end in
     let d = with_channel b c k.journal in
     let whole : journal_lines version stamps k.journal ≡ lines_so_far draft ++ k.more = ap (λ (v : Version). journal_lines v stamps k.journal) (sym is) ∙ k.whole in
     let channel : channel_lines version c stamps k.journal ≡ inside ++ map Inner k.more = ap (λ (ls : List Line). Own (Opens c) ∷ map Inner ls) whole ∙ ap (λ (ls : List BundleLine). Own (Opens c) ∷ ls) (map-append Inner (lines_so_far draft) k.more) in
     let written = channel_written version rows b c draft k.journal w.written o (subst (λ (v : Version). IsWritten (limits_of v) k.journal) is k.fits) k.fitting in
-    let lines : (fs : List BundleLine) → fs ≡ before ++ channel_lines version c stamps k.journal → fs ++ Own Done ∷ [] ≡ (before ++ inside) ++ more = λ fs e.
-    ap (λ (ls : List BundleLine). ls ++ Own Done ∷ []) (e ∙ ap (λ (ls : List BundleLine). before ++ ls) channel ∙ sym (append_assoc before inside (map Inner k.more))) ∙ append_assoc (before ++ inside) (map Inner k.more) (Own Done ∷ []) in
+    let lines : (fs : List BundleLine) → fs ≡ before ++ channel_lines version c stamps k.journal → fs ++ end ≡ (before ++ inside) ++ more = λ fs e.
+    ap (λ (ls : List BundleLine). ls ++ end) (e ∙ ap (λ (ls : List BundleLine). before ++ ls) channel ∙ sym (append_assoc before inside (map Inner k.more))) ∙ append_assoc (before ++ inside) (map Inner k.more) end in
     elim (is_within draft.place) as (λ v. is_within draft.place ≡ v → CanGoOn (bundles due) v (before ++ inside)) [
       | true ↦ λ within.
           let all = all_stamps version tables b.journals ++ stamps ∷ [] in
@@ -516,38 +658,43 @@ bundle_begins_at parts.Tables rows s h =
     let b = s.bundle in
     goes_on s.due s.version (tables_lines s.version b.replica b.opened s.tables) (Own Done ∷ []) [] (bare b.replica b.opened s.tables) h.due_version (tables_written s.version b.replica b.opened s.tables h.replica h.opened h.added)
     (ap (λ (ls : List BundleLine). ls ++ Own Done ∷ []) (sym (tables_front s.version b.replica b.opened s.tables)))
-bundle_begins_at parts.Rows rows s h = goes_on s.due s.version (front s.version rows s.bundle) (Own Done ∷ []) rows s.bundle h.0.due_version h.0.written refl
-bundle_begins_at parts.Channels rows s h = goes_on s.due s.version (front s.version rows s.bundle) (Own Done ∷ []) rows s.bundle h.due_version h.written refl
+bundle_begins_at parts.References rows s h = goes_on s.due s.version (front s.version rows s.bundle) (assumption_lines s.bundle.assumptions ++ Own Done ∷ []) rows s.bundle h.0.due_version h.0.written refl
+bundle_begins_at parts.Rows rows s h = goes_on s.due s.version (front s.version rows s.bundle) (assumption_lines s.bundle.assumptions ++ Own Done ∷ []) rows s.bundle h.0.due_version h.0.written refl
+bundle_begins_at parts.Channels rows s h = goes_on s.due s.version (front s.version rows s.bundle) (assumption_lines s.bundle.assumptions ++ Own Done ∷ []) rows s.bundle h.0.due_version h.0.written refl
 bundle_begins_at parts.Journal rows s h = open_begins s.channel h.1
   where
     open_begins : (o : Option BundleChannel) → OpenChannel s.version s.bundle o s.draft → CanGoOn (bundles s.due) (is_within s.draft.place) (front s.version rows s.bundle ++ inner_lines_so_far o s.draft)
     open_begins None k = absurd k
     open_begins (Some c) k = begins_inside s.due s.version rows s.bundle c s.draft h.0 k
+bundle_begins_at parts.Assumptions rows s h =
+    let before = front s.version rows s.bundle in
+    let assumed = assumption_lines s.bundle.assumptions in
+    goes_on s.due s.version (before ++ assumed) (Own Done ∷ []) rows s.bundle h.due_version h.written (sym (append_assoc before assumed (Own Done ∷ [])))
 bundle_begins_at parts.Ended rows s h =
-    let all = front s.version rows s.bundle ++ Own Done ∷ [] in
+    let all = front s.version rows s.bundle ++ (assumption_lines s.bundle.assumptions ++ Own Done ∷ []) in
     goes_on s.due s.version all [] rows s.bundle h.due_version h.written (sym (append-nil all))
 
 -- ---- bundles
 
-abbrev pub IsSoundBundle : Option Version → BundleStanding → List BundleLine → Type 0
+abbrev pub IsSoundBundle : Due → BundleStanding → List BundleLine → Type 0
 IsSoundBundle due s ls = (s.due ≡ due) × ((rows : List TableRow) × (bundle_lines_so_far rows s ≡ ls) × IsBundleSound rows s)
 
 -- a bundle that has come to its end
-pub ends_at : (part : Part) (rows : List TableRow) (s : BundleStanding) → SoundAt part s.due s.version s.tables rows s.bundle s.channel s.draft → is_done part ≡ true → IsDueBundle s.due s.version rows s.bundle × (bundle_lines_so_far_at part rows s ≡ front s.version rows s.bundle ++ Own Done ∷ [])
+pub ends_at : (part : Part) (rows : List TableRow) (s : BundleStanding) → SoundAt part s.due s.version s.tables rows s.bundle s.channel s.draft → is_done part ≡ true → IsDueBundle s.due s.version rows s.bundle × (bundle_lines_so_far_at part rows s ≡ front s.version rows s.bundle ++ (assumption_lines s.bundle.assumptions ++ Own Done ∷ []))
 ends_at parts.Ended rows s h last = (h, refl)
 ends_at part rows s h last = absurd cc
 
-pub bundle_laws : (due : Option Version) → Laws (bundles due) (IsSoundBundle due)
+pub bundle_laws : (due : Due) → Laws (bundles due) (IsSoundBundle due)
 bundle_laws due = record {
   starts = (refl, ([], refl, refl));
   has_lines = λ s ls h. (h.1.0, h.1.1);
-  begins = λ s ls h. subst (λ (x : Option Version). CanGoOn (bundles x) (is_entry_open s.part s.draft.place) ls) h.0 (subst (λ (x : List BundleLine). CanGoOn (bundles s.due) (is_entry_open s.part s.draft.place) x) h.1.1 (bundle_begins_at s.part h.1.0 s h.1.2));
+  begins = λ s ls h. subst (λ (x : Due). CanGoOn (bundles x) (is_entry_open s.part s.draft.place) ls) h.0 (subst (λ (x : List BundleLine). CanGoOn (bundles s.due) (is_entry_open s.part s.draft.place) x) h.1.1 (bundle_begins_at s.part h.1.0 s h.1.2));
   judges = λ s ls line h. MatchResult-weaker (judge_bundle s line) (bundle_taken h.1.0 s line h.1.2)
       (λ t k. record { l = k.l; text = k.text; sound = (k.keeps.same_due ∙ h.0, (k.keeps.rows, k.keeps.says ∙ ap (λ (x : List BundleLine). x ++ k.l ∷ []) h.1.1, k.keeps.sound)) })
       (λ c k. k);
   ends = λ s ls h last.
       let e = ends_at s.part h.1.0 s h.1.2 last in
-      (s.version, ap (λ (x : Option Version). takes x s.version) (sym h.0) ∙ e.0.due_version, record { rows = h.1.0; written = e.0.written; text = ap bundle_text (sym h.1.1 ∙ e.1) });
+      (s.version, ap (λ (x : Due). takes x s.version) (sym h.0) ∙ e.0.due_version, record { rows = h.1.0; written = e.0.written; text = ap bundle_text (sym h.1.1 ∙ e.1) });
   reads = reads_bundle due;
   loose = judge_by false;
   follows = follows;
@@ -557,7 +704,7 @@ bundle_laws due = record {
 
 -- ---- whichever version is due, the end is the same
 
-pub closing_same : (due : Option Version) (p : Progress BundleStanding) → closing_bundle p ≡ closing_by (bundles due) p
+pub closing_same : (due : Due) (p : Progress BundleStanding) → closing_bundle p ≡ closing_by (bundles due) p
 unfolding closing_by
 closing_same due (Reading s n rest) = refl
 closing_same due (Stopped f) = refl
@@ -574,10 +721,12 @@ in_listed_order version rows b k = record {
   replica = k.replica;
   opened = k.opened;
   tables = k.tables;
+  references = k.references;
   opening = listed_opening (limits_of version) b.start.schema rows b.start.rows k.opening;
   named = k.named;
   few = k.few;
   brought = k.brought;
+  assumed = k.assumed;
 }
 
 -- a bundle of version 1 may be written by version 2, and one of a later version by the same, with its rows in listed order
@@ -586,10 +735,12 @@ relisted_by One rows b k = record {
   replica = k.replica;
   opened = opening_two One b.opened k.opened;
   tables = k.tables;
+  references = k.references;
   opening = listed_opening Narrow b.start.schema rows b.start.rows k.opening;
   named = k.named;
   few = k.few;
   brought = k.brought;
+  assumed = k.assumed;
 }
 relisted_by Two rows b k = in_listed_order Two rows b k
 relisted_by Three rows b k = in_listed_order Three rows b k
@@ -597,15 +748,15 @@ relisted_by Three rows b k = in_listed_order Three rows b k
 pub relisted : (version : Version) (rows : List TableRow) (b : BundleValue) → IsWrittenBundle version rows b → IsBundle b
 relisted version rows b k = (limits_of version, relisted_by version rows b k)
 
-pub upgraded : (bytes : List ℕ) (b : BundleValue) → WritesBundleBy (Some One) bytes b → WritesBundleBy (Some Two) (spelling_by Two b) b
+pub upgraded : (bytes : List ℕ) (b : BundleValue) → WritesBundleBy (Only One) bytes b → WritesBundleBy (Only Two) (spelling_by Two b) b
 upgraded bytes b (One, is, w) = (Two, refl, record { rows = rows_listed b.start.rows; written = relisted_by One w.rows b w.written; text = refl })
 upgraded bytes b (Two, is, w) = absurd cc
 upgraded bytes b (Three, is, w) = absurd cc
 
-pub upgraded_read : (bytes : List ℕ) (b : BundleValue) → WritesBundleBy (Some One) bytes b → IsReadAs (spelling_by Two b) b
+pub upgraded_read : (bytes : List ℕ) (b : BundleValue) → WritesBundleBy (Only One) bytes b → IsReadAs (spelling_by Two b) b
 upgraded_read bytes b w =
     let u = upgraded bytes b w in
-    reads_back (bundles None) (IsSoundBundle None) (bundle_laws None) (spelling_by Two b) b (u.0, any_version u.0, u.2)
+    reads_back (bundles Any) (IsSoundBundle Any) (bundle_laws Any) (spelling_by Two b) b (u.0, any_version u.0, u.2)
   where
-    any_version : (v : Version) → takes None v ≡ true
+    any_version : (v : Version) → takes Any v ≡ true
     any_version v = refl

@@ -15,8 +15,12 @@ use Rattle.txn_journal.specs.Stamps.{right_stamps, all_stamps}
 use Rattle.txn_journal.specs.Spelling.{Line, ended_line, lines_text, journal_lines, spelling_as}
 use Rattle.txn_journal.specs.BundleStates.{BundleValue}
 use Rattle.txn_journal.specs.WrittenSets.{set_text}
-use Rattle.txn_journal.specs.BundleText.{Heads, Names, Starts, Has, Puts, Opens, Done, BundleLine, Own, Inner, preserve_text, ended_bundle_line, bundle_text, table_lines, row_lines, channel_lines, channels_lines, opening_set_lines, start_lines, bundle_spelling}
-use Rattle.txn_journal.specs.Texts.{columns_behind, uniques_text, hidden_part, tables_text, rows_text, channel_and_journal_text, channels_and_journals_text, head_text, start_text}
+use Rattle.txn_journal.specs.BundleText.{Heads, Names, Starts, Has, Puts, Opens, Refers, Assumes, Done, BundleLine, Own, Inner, preserve_text, ended_bundle_line, bundle_text, table_lines, reference_lines, row_lines, assumption_lines, channel_lines, channels_lines, opening_set_lines, start_lines, bundle_spelling}
+use Rattle.txn_journal.specs.Texts.{columns_behind, uniques_text, hidden_part, cascade_part, tables_text, references_text, rows_text, assumptions_text, channel_and_journal_text, channels_and_journals_text, head_text, start_text}
+use Rattle.txn_journal.specs.References.{cascade_words, reference_shape}
+use Rattle.txn_journal.specs.Assumptions.{assumption_text}
+use Rattle.txn_journal.specs.declared.references.Reference.{Reference}
+use Rattle.txn_journal.specs.declared.assumptions.Assumption.{Assumption}
 use Rattle.txn_journal.specs.declared.bundle.BundleChannel.{BundleChannel}
 use Rattle.txn_journal.specs.declared.lines.Version.{Version}
 
@@ -83,6 +87,32 @@ table_appended out t =
     ∙ table_parts out t.name (decimal t.columns) (columns_text t.primary) (uniques_text t.uniques ++ hidden_part t.hidden)
     ∙ ap (λ (u : List ℕ). out ++ ((codes "table" ++ 32 ∷ (t.name ++ 32 ∷ (decimal t.columns ++ 32 ∷ (codes "pk" ++ 32 ∷ u)))) ++ 10 ∷ [])) (sym (behind_primary (columns_text t.primary) t.uniques t.hidden))
 
+-- ---- references and assumptions
+
+reference_parts : (out child columns parent key word : List ℕ) → (((((((out ++ codes "fk ") ++ child) ++ codes " ") ++ columns) ++ codes " ") ++ parent) ++ 32 ∷ key) ++ (word ++ 10 ∷ [])
+    ≡ out ++ ((codes "fk" ++ 32 ∷ (child ++ 32 ∷ (columns ++ 32 ∷ (parent ++ 32 ∷ (key ++ word))))) ++ 10 ∷ [])
+reference_parts out child columns parent key word = simp append_assoc
+
+-- the last words of a reference's line
+key_and_more : (key : List ℕ) (c : Bool) → joined_by 32 (key ∷ cascade_words c) ≡ key ++ cascade_part c
+key_and_more key true = refl
+key_and_more key false = sym (append-nil key)
+
+pub reference_appended : (out : List ℕ) (r : Reference) → (((((((out ++ codes "fk ") ++ r.child) ++ codes " ") ++ columns_text r.columns) ++ codes " ") ++ r.parent) ++ 32 ∷ decimal r.key) ++ (cascade_part r.cascade ++ codes "\n") ≡ out ++ ended_bundle_line (Own (Refers (reference_shape r)))
+reference_appended out r =
+    reference_parts out r.child (columns_text r.columns) r.parent (decimal r.key) (cascade_part r.cascade)
+    ∙ ap (λ (t : List ℕ). out ++ ((codes "fk" ++ 32 ∷ (r.child ++ 32 ∷ (columns_text r.columns ++ 32 ∷ (r.parent ++ 32 ∷ t)))) ++ 10 ∷ [])) (sym (key_and_more (decimal r.key) r.cascade))
+
+pub assumption_appended : (out : List ℕ) (a : Assumption) → ((out ++ codes "assume ") ++ assumption_text a) ++ codes "\n" ≡ out ++ ended_bundle_line (Own (Assumes a))
+assumption_appended out a = line_behind out (assumption_text a)
+  where
+    line_behind : (out text : List ℕ) → ((out ++ codes "assume ") ++ text) ++ codes "\n" ≡ out ++ ((codes "assume" ++ 32 ∷ text) ++ 10 ∷ [])
+    line_behind out text = simp append_assoc
+
+-- a word, and a name behind it
+pub named_appended : (out word name : List ℕ) → (out ++ word) ++ name ≡ out ++ (word ++ name)
+named_appended out word name = append_assoc out word name
+
 -- ---- channels
 
 channel_parts : (out name word : List ℕ) → ((out ++ codes "channel ") ++ name) ++ (word ++ 10 ∷ []) ≡ out ++ ((codes "channel" ++ 32 ∷ (name ++ word)) ++ 10 ∷ [])
@@ -122,9 +152,12 @@ all_brought out whole version tables cs js n is so_far =
 
 -- ---- the whole
 
-pub start_appended : (out : List ℕ) (version : Version) (replica : ℕ) (opened : Gtids) (tables : List Table) (rows : List TableRow) → ((out ++ head_text version replica opened) ++ tables_text tables) ++ rows_text rows ≡ out ++ start_text version replica opened tables rows
+four_behind : (out a b c d : List ℕ) → (((out ++ a) ++ b) ++ c) ++ d ≡ out ++ (a ++ (b ++ (c ++ d)))
+four_behind out a b c d = simp append_assoc
+
+pub start_appended : (out : List ℕ) (version : Version) (replica : ℕ) (opened : Gtids) (tables : List Table) (references : List Reference) (rows : List TableRow) → (((out ++ head_text version replica opened) ++ tables_text tables) ++ references_text references) ++ rows_text rows ≡ out ++ start_text version replica opened tables references rows
 unfolding start_text
-start_appended out version replica opened tables rows = both_behind out (head_text version replica opened) (tables_text tables) (rows_text rows)
+start_appended out version replica opened tables references rows = four_behind out (head_text version replica opened) (tables_text tables) (references_text references) (rows_text rows)
 
 both_lines : (a b : List BundleLine) → bundle_text (a ++ b) ≡ bundle_text a ++ bundle_text b
 both_lines a b = flat_map-append ended_bundle_line a b
@@ -137,6 +170,14 @@ lines_of_rows : (rows : List TableRow) → rows_text rows ≡ bundle_text (row_l
 lines_of_rows [] = refl
 lines_of_rows (r ∷ rs) = ap (λ (u : List ℕ). ended_bundle_line (Own (Puts r)) ++ u) (lines_of_rows rs)
 
+lines_of_references : (references : List Reference) → references_text references ≡ bundle_text (reference_lines references)
+lines_of_references [] = refl
+lines_of_references (r ∷ rs) = ap (λ (u : List ℕ). ended_bundle_line (Own (Refers (reference_shape r))) ++ u) (lines_of_references rs)
+
+lines_of_assumptions : (said : List Assumption) → assumptions_text said ≡ bundle_text (assumption_lines said)
+lines_of_assumptions [] = refl
+lines_of_assumptions (a ∷ said) = ap (λ (u : List ℕ). ended_bundle_line (Own (Assumes a)) ++ u) (lines_of_assumptions said)
+
 lines_of_channels : (version : Version) (tables : List Table) (cs : List BundleChannel) (js : List JournalValue) → channels_and_journals_text version tables cs js ≡ bundle_text (channels_lines version cs (all_stamps version tables js) js)
 unfolding channel_and_journal_text
 lines_of_channels version tables [] js = refl
@@ -145,26 +186,34 @@ lines_of_channels version tables (c ∷ cs) (j ∷ js) =
     ap (λ (u : List ℕ). bundle_text (channel_lines version c (right_stamps version tables j.entries) j) ++ u) (lines_of_channels version tables cs js)
     ∙ sym (both_lines (channel_lines version c (right_stamps version tables j.entries) j) (channels_lines version cs (all_stamps version tables js) js))
 
-lines_of_start : (version : Version) (rows : List TableRow) (b : BundleValue) → start_text version b.replica b.opened b.start.schema rows ≡ bundle_text (start_lines version rows b)
+lines_of_start : (version : Version) (rows : List TableRow) (b : BundleValue) → start_text version b.replica b.opened b.start.schema b.references rows ≡ bundle_text (start_lines version rows b)
 unfolding start_text head_text
 lines_of_start version rows b =
     let head : List BundleLine = Own (Heads version) ∷ Own (Names b.replica) ∷ opening_set_lines version b.opened in
-    sym (append_assoc (bundle_text head) (tables_text b.start.schema) (rows_text rows))
-    ∙ ap (λ (u : List ℕ). (bundle_text head ++ u) ++ rows_text rows) (lines_of_tables b.start.schema)
-    ∙ ap (λ (u : List ℕ). (bundle_text head ++ bundle_text (table_lines b.start.schema)) ++ u) (lines_of_rows rows)
-    ∙ ap (λ (u : List ℕ). u ++ bundle_text (row_lines rows)) (sym (both_lines head (table_lines b.start.schema)))
-    ∙ sym (both_lines (head ++ table_lines b.start.schema) (row_lines rows))
+    let tables = table_lines b.start.schema in
+    let behind : references_text b.references ++ rows_text rows ≡ bundle_text (reference_lines b.references ++ row_lines rows) = (λ i. lines_of_references b.references i ++ lines_of_rows rows i) ∙ sym (both_lines (reference_lines b.references) (row_lines rows)) in
+    (λ i. bundle_text head ++ (lines_of_tables b.start.schema i ++ behind i))
+    ∙ sym (append_assoc (bundle_text head) (bundle_text tables) (bundle_text (reference_lines b.references ++ row_lines rows)))
+    ∙ ap (λ (u : List ℕ). u ++ bundle_text (reference_lines b.references ++ row_lines rows)) (sym (both_lines head tables))
+    ∙ sym (both_lines (head ++ tables) (reference_lines b.references ++ row_lines rows))
 
-lines_of_bundle : (version : Version) (rows : List TableRow) (b : BundleValue) → (start_text version b.replica b.opened b.start.schema rows ++ channels_and_journals_text version b.start.schema b.channels b.journals) ++ codes "done\n" ≡ bundle_spelling version rows b
+-- the assumptions, and the last line
+lines_of_end : (said : List Assumption) → assumptions_text said ++ codes "done\n" ≡ bundle_text (assumption_lines said ++ Own Done ∷ [])
+lines_of_end said = ap (λ (u : List ℕ). u ++ codes "done\n") (lines_of_assumptions said) ∙ sym (both_lines (assumption_lines said) (Own Done ∷ []))
+
+lines_of_bundle : (version : Version) (rows : List TableRow) (b : BundleValue) → (start_text version b.replica b.opened b.start.schema b.references rows ++ channels_and_journals_text version b.start.schema b.channels b.journals) ++ (assumptions_text b.assumptions ++ codes "done\n") ≡ bundle_spelling version rows b
 lines_of_bundle version rows b =
     let brought : List BundleLine = channels_lines version b.channels (all_stamps version b.start.schema b.journals) b.journals in
-    ap (λ (u : List ℕ). (u ++ channels_and_journals_text version b.start.schema b.channels b.journals) ++ codes "done\n") (lines_of_start version rows b)
-    ∙ ap (λ (u : List ℕ). (bundle_text (start_lines version rows b) ++ u) ++ codes "done\n") (lines_of_channels version b.start.schema b.channels b.journals)
-    ∙ ap (λ (u : List ℕ). u ++ codes "done\n") (sym (both_lines (start_lines version rows b) brought))
-    ∙ sym (both_lines (start_lines version rows b ++ brought) (Own Done ∷ []))
+    let end : List BundleLine = assumption_lines b.assumptions ++ Own Done ∷ [] in
+    (λ i. (lines_of_start version rows b i ++ lines_of_channels version b.start.schema b.channels b.journals i) ++ lines_of_end b.assumptions i)
+    ∙ ap (λ (u : List ℕ). u ++ bundle_text end) (sym (both_lines (start_lines version rows b) brought))
+    ∙ sym (both_lines (start_lines version rows b ++ brought) end)
 
-pub bundle_appended : (out : List ℕ) (version : Version) (rows : List TableRow) (b : BundleValue) → ((out ++ start_text version b.replica b.opened b.start.schema rows) ++ channels_and_journals_text version b.start.schema b.channels b.journals) ++ codes "done\n" ≡ out ++ bundle_spelling version rows b
+pub bundle_appended : (out : List ℕ) (version : Version) (rows : List TableRow) (b : BundleValue) → (((out ++ start_text version b.replica b.opened b.start.schema b.references rows) ++ channels_and_journals_text version b.start.schema b.channels b.journals) ++ assumptions_text b.assumptions) ++ codes "done\n" ≡ out ++ bundle_spelling version rows b
 bundle_appended out version rows b =
-    ap (λ (u : List ℕ). u ++ codes "done\n") (append_assoc out (start_text version b.replica b.opened b.start.schema rows) (channels_and_journals_text version b.start.schema b.channels b.journals))
-    ∙ append_assoc out (start_text version b.replica b.opened b.start.schema rows ++ channels_and_journals_text version b.start.schema b.channels b.journals) (codes "done\n")
-    ∙ ap (λ (u : List ℕ). out ++ u) (lines_of_bundle version rows b)
+    let start = start_text version b.replica b.opened b.start.schema b.references rows in
+    let brought = channels_and_journals_text version b.start.schema b.channels b.journals in
+    ends_behind out start brought (assumptions_text b.assumptions) (codes "done\n") ∙ ap (λ (u : List ℕ). out ++ u) (lines_of_bundle version rows b)
+  where
+    ends_behind : (out a b c d : List ℕ) → (((out ++ a) ++ b) ++ c) ++ d ≡ out ++ ((a ++ b) ++ (c ++ d))
+    ends_behind out a b c d = simp append_assoc

@@ -14,9 +14,7 @@ use Rattle.txn_journal.specs.Stamps.{right_stamp}
 use Rattle.txn_journal.specs.Stream.{GivesFull, TakesPlain}
 use Rattle.journal_words.specs.Gtids.{set_of_word, OfParsed}
 use Rattle.txn_journal.specs.declared.bundle_draft.Part.TheVariants as parts
-use Rattle.txn_journal.specs.declared.bundle_draft.Word.{Word}
-use Rattle.txn_journal.specs.declared.bundle_draft.Word.TheVariants as words
-use Rattle.txn_journal.specs.BundleStates.{BundleStanding, BundleValue, bare, is_due_in, opening_line, IsFullBundle, with_journal, after_inner, unless_misstamped, end_entry, judge_inner}
+use Rattle.txn_journal.specs.BundleStates.{BundleStanding, BundleValue, bare, opening_line, IsFullBundle, with_journal, after_inner, unless_misstamped, end_entry, judge_inner}
 use Rattle.txn_journal.specs.declared.bundle.BundleChannel.{BundleChannel}
 use Rattle.txn_journal.specs.declared.lines.LinePlace.TheVariants as places
 use Rattle.txn_journal.specs.declared.fault.Cause.{Cause}
@@ -101,13 +99,3 @@ opened_many s (Some opened) few (inr h) = h
 pub opening_many : (s : BundleStanding) (word : List ℕ) → (IsFull SourcesFull s.draft → ⊥) → GivesFull (IsFullBundle SourcesFull) (opening_line s (Some word)) → OfParsed HasManySources (set_of_word word)
 unfolding opening_line
 opening_many s word few h = opened_many s (set_of_word word) few h
-
--- nothing else is due there
-pub opening_due : (w : Word) → is_due_in parts.Opening w ≡ true → w ≡ words.Opening
-opening_due words.Bundle e = absurd cc
-opening_due words.Replica e = absurd cc
-opening_due words.Opening e = refl
-opening_due words.Table e = absurd cc
-opening_due words.Row e = absurd cc
-opening_due words.Channel e = absurd cc
-opening_due words.Done e = absurd cc

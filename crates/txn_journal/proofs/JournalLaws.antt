@@ -47,6 +47,8 @@ use Rattle.std.proofs.lemmas.Result.{MatchResult-weaker}
 use Rattle.lemmas.proofs.Lists.{all_true_append as joins}
 use Rattle.txn_journal.specs.LinesSoFar.{lines_so_far}
 use Rattle.txn_journal.specs.declared.lines.LinePlace.{LinePlace}
+use Rattle.txn_journal.specs.declared.lines.Due.{Due}
+use Rattle.txn_journal.specs.declared.lines.Due.TheVariants.{Any, Only, BeforeThree}
 
 -- ---- no line feed is in a line
 
@@ -143,7 +145,7 @@ with_entry j e = record j { entries = j.entries ++ e ∷ [] }
 abbrev with_entries : JournalValue → List Entry → JournalValue
 with_entries j es = record j { entries = j.entries ++ es }
 
-abbrev pub at : LinePlace → Option Version → Version → JournalValue → List ℕ → Gtids → ℕ → Gtid → ℕ → List Change → Standing
+abbrev pub at : LinePlace → Due → Version → JournalValue → List ℕ → Gtids → ℕ → Gtid → ℕ → List Change → Standing
 at place due version j stamps seen count g stamp cs = record { place = place; due = due; version = version; journal = j; stamps = stamps; seen = seen; count = count; gtid = g; stamp = stamp; changes = cs }
 
 -- the text of a line is read, and then it acts
@@ -162,7 +164,7 @@ AreRight Right earlier (l ∷ ls) (e ∷ es) = Right earlier l e × AreRight Rig
 AreRight Right earlier _ _ = ⊥
 
 -- K does with the states of a journal what judging does, as long as its last line has not come, and where each entry that ends has a number that is right
-module _ (schema : Option (List Table)) (due : Option Version) (version : Version) {T : Type 0} (K : Judge T) (into : Standing → T) (Right : List Entry → ℕ → Entry → Type 0)
+module _ (schema : Option (List Table)) (due : Due) (version : Version) {T : Type 0} (K : Judge T) (into : Standing → T) (Right : List Entry → ℕ → Entry → Type 0)
     (carries : (s t : Standing) (line : List ℕ) → judge schema s line ≡ Ok t → is_last t.place ≡ false → (s.place ≡ places.Within → is_within t.place ≡ false → Right s.journal.entries s.stamp (open_entry s)) → K (into s) line ≡ Ok (into t)) where
   abbrev Goes : Standing → List Line → Standing → Type 0
   Goes s ls t = Leads K line_text (into s) ls (into t)
@@ -270,13 +272,13 @@ any_right version place earlier [] (e ∷ es) h = absurd h
 any_right version place earlier (l ∷ ls) [] h = absurd h
 
 -- its lines are read to their end
-record ReadsTo (due : Option Version) (version : Version) (stamps : List ℕ) (bytes : List ℕ) (j : JournalValue) : Type 0 where
+record ReadsTo (due : Due) (version : Version) (stamps : List ℕ) (bytes : List ℕ) (j : JournalValue) : Type 0 where
   last : Standing
   leads : Leads (judge None) line_text (empty due) (journal_lines version stamps j) last
   done : is_last last.place ≡ true
   written : as_written last ≡ record { version = version; stamps = stamps; journal = j }
 
-reads_to : (due : Option Version) (version : Version) (stamps : List ℕ) (bytes : List ℕ) (j : JournalValue) → takes due version ≡ true → WritesAs version stamps bytes j → ReadsTo due version stamps bytes j
+reads_to : (due : Due) (version : Version) (stamps : List ℕ) (bytes : List ℕ) (j : JournalValue) → takes due version ≡ true → WritesAs version stamps bytes j → ReadsTo due version stamps bytes j
 reads_to due version stamps bytes j is w =
     let r = goes_front None due version (judge None) (λ s. s) (λ before l e. Unit {0}) (λ s t line e more right. e) stamps j is w.written w.stamps_fit (alone_takes_all j.entries) (any_right version 1 [] stamps j.entries w.stamps_fit) in
     let s = at places.Between due version j stamps r.seen (length j.entries) r.last r.stamp [] in
@@ -304,7 +306,7 @@ last_stamps places.Within s = s.stamps ++ s.stamp ∷ []
 last_stamps _ s = s.stamps
 
 -- a journal that has begun can be brought to its end
-pub record Completes (schema : Option (List Table)) (due : Option Version) (place : LinePlace) (s : Standing) : Type 0 where
+pub record Completes (schema : Option (List Table)) (due : Due) (place : LinePlace) (s : Standing) : Type 0 where
   pub version : Version
   pub journal : JournalValue
   pub more : List Line
@@ -315,11 +317,12 @@ pub record Completes (schema : Option (List Table)) (due : Option Version) (plac
   pub fitting : list_all (fits_in schema) journal.entries ≡ true
   pub whole : journal_lines version (last_stamps place s) journal ≡ lines_so_far (placed place s) ++ more
 
-pub some_version : (due : Option Version) → (version : Version) × (takes due version ≡ true)
-some_version None = (One, refl)
-some_version (Some One) = (One, refl)
-some_version (Some Two) = (Two, refl)
-some_version (Some Three) = (Three, refl)
+pub some_version : (due : Due) → (version : Version) × (takes due version ≡ true)
+some_version Any = (One, refl)
+some_version (Only One) = (One, refl)
+some_version (Only Two) = (Two, refl)
+some_version (Only Three) = (Three, refl)
+some_version BeforeThree = (One, refl)
 
 pub completes_at : (schema : Option (List Table)) (place : LinePlace) (s : Standing) → Sound_at schema place s → Completes schema s.due place s
 completes_at schema places.Header s h =
@@ -357,15 +360,15 @@ ended schema s h last = let e = ended_at schema s.place s h last in record { who
 
 -- ---- journals that stand alone
 
-abbrev pub IsSoundAlone : Option Version → Standing → List Line → Type 0
+abbrev pub IsSoundAlone : Due → Standing → List Line → Type 0
 IsSoundAlone due s ls = (s.due ≡ due) × (lines_so_far s ≡ ls) × IsSound None s
 
 -- of whatever is looked at in the end: where there is a text of it, it is read, and the other way round
-pub record Seen {V : Type 0} (due : Option Version) (value : Standing → V) (Spelled : List ℕ → V → Type 0) : Type 0 where
+pub record Seen {V : Type 0} (due : Due) (value : Standing → V) (Spelled : List ℕ → V → Type 0) : Type 0 where
   pub spelled : (bytes : List ℕ) (s : Standing) → IsWrittenAs due bytes (as_written s) → Spelled bytes (value s)
   pub written : (bytes : List ℕ) (v : V) → Spelled bytes v → (w : WrittenJournal) × IsWrittenAs due bytes w × ((s : Standing) → as_written s ≡ w → value s ≡ v)
 
-pub laws_as : {V : Type 0} (due : Option Version) (value : Standing → V) (Spelled : List ℕ → V → Type 0) → Seen due value Spelled → Laws (journals_as due value Spelled) (IsSoundAlone due)
+pub laws_as : {V : Type 0} (due : Due) (value : Standing → V) (Spelled : List ℕ → V → Type 0) → Seen due value Spelled → Laws (journals_as due value Spelled) (IsSoundAlone due)
 laws_as {V} due value Spelled seen =
     let f = journals_as due value Spelled in
     record {
@@ -373,7 +376,7 @@ laws_as {V} due value Spelled seen =
       has_lines = λ s ls h. h.1;
       begins = λ s ls h.
           let k = completes_at None s.place s h.2 in
-          let is : takes due k.version ≡ true = subst (λ (d : Option Version). takes d k.version ≡ true) h.0 k.takes_version in
+          let is : takes due k.version ≡ true = subst (λ (d : Due). takes d k.version ≡ true) h.0 k.takes_version in
           let stamps = last_stamps s.place s in
           let end = record s { version = k.version; stamps = stamps; journal = k.journal } in
           let text : lines_text (ls ++ k.more) ≡ spelling_as k.version stamps k.journal = ap (λ (x : List Line). lines_text (x ++ k.more)) (sym h.1) ∙ ap lines_text (sym k.whole) in
@@ -383,7 +386,7 @@ laws_as {V} due value Spelled seen =
           (λ c k. k);
       ends = λ s ls h last.
           let e = ended None s h.2 last in
-          let is : takes due s.version ≡ true = subst (λ (d : Option Version). takes d s.version ≡ true) h.0 e.whole.due in
+          let is : takes due s.version ≡ true = subst (λ (d : Due). takes d s.version ≡ true) h.0 e.whole.due in
           seen.spelled (lines_text ls) s (is, record { written = e.written; stamps_fit = e.whole.stamped; text = ap lines_text (sym h.1 ∙ e.lines) });
       reads = λ bytes v w.
           let x = seen.written bytes v w in
@@ -398,13 +401,13 @@ laws_as {V} due value Spelled seen =
           record { lines = journal_lines x.0.version x.0.stamps x.0.journal; last = r.last; parts = x.1.1.text; leads = r.leads; done = r.done; value = x.2 r.last r.written };
     }
 
-pub journal_laws : Laws journals (IsSoundAlone None)
-journal_laws = laws_as None (λ s. s.journal) Writes (record {
+pub journal_laws : Laws journals (IsSoundAlone Any)
+journal_laws = laws_as Any (λ s. s.journal) Writes (record {
   spelled = λ bytes s w. (s.version, s.stamps, w.1);
   written = λ bytes j w. (record { version = w.0; stamps = w.1; journal = j }, (refl, w.2), λ s e. ap (λ (x : WrittenJournal). x.journal) e);
 })
 
-pub written_laws : (due : Option Version) → Laws (written_journals due) (IsSoundAlone due)
+pub written_laws : (due : Due) → Laws (written_journals due) (IsSoundAlone due)
 written_laws due = laws_as due as_written (IsWrittenAs due) (record { spelled = λ bytes s w. w; written = λ bytes v w. (v, w, λ s e. e) })
 
 -- version 1 has no numbers

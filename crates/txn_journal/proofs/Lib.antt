@@ -20,6 +20,7 @@ pub mod FormatLaws
 pub mod SplitLaws
 pub mod ShapeWords
 pub mod ShapeLaws
+pub mod Referring
 pub mod OwnReads
 pub mod TableSteps
 pub mod InnerSteps
@@ -27,6 +28,7 @@ pub mod ChangeSteps
 pub mod EntryTexts
 pub mod EntrySteps
 pub mod BundleSound
+pub mod BundleTaken
 pub mod BundleLaws
 pub mod BundleKept
 pub mod Widening

@@ -36,11 +36,12 @@ use Rattle.txn_journal.proofs.Judged.{then_both, if_both, some_both, IsBody, one
 use Rattle.txn_journal.proofs.WordLaws.{among_found, IsVersionFault, IsRestFault, ParsesAs, read_by, read_at, RestLaws, of_body, of_header}
 use Rattle.std.proofs.lemmas.Option.{same_Some}
 use Rattle.gtid_text.proofs.Turns.{chosen}
+use Rattle.txn_journal.specs.declared.lines.Due.{Due}
 
 -- ---- a line is read, and then it acts
 
 -- what the rest of a line parses as
-unfoldable pub body_of : Option Version → Version → Keyword → Option (List ℕ) → Result Line Cause
+unfoldable pub body_of : Due → Version → Keyword → Option (List ℕ) → Result Line Cause
 body_of due version keywords.Journal rest = version_in due rest >>= λ v. Ok (Header v)
 body_of due version keywords.Previous rest = set_in rest >>= λ s. Ok (Previous s)
 body_of due version keywords.Txn rest = beginning_in version rest >>= λ b. Ok (Begin b.gtid b.numbers)
@@ -86,11 +87,11 @@ every_keyword = keywords.Journal ∷ keywords.Previous ∷ keywords.Txn ∷ keyw
 
 -- ---- what the words are
 
-version_known : (due : Option Version) (w : List ℕ) (o : Option Version) → is_count w ≡ true → version_named w ≡ o → MatchResult (known_version due o) (λ v. (Some w ≡ Some (version_text v)) × (takes due v ≡ true)) (IsVersionFault (Some w))
+version_known : (due : Due) (w : List ℕ) (o : Option Version) → is_count w ≡ true → version_named w ≡ o → MatchResult (known_version due o) (λ v. (Some w ≡ Some (version_text v)) × (takes due v ≡ true)) (IsVersionFault (Some w))
 version_known due w None count e = (w, refl, count)
 version_known due w (Some v) count e = if_both _ _ (takes due v) _ _ (λ taken. (ap Some (among_found version_text (One ∷ Two ∷ Three ∷ []) w v e), taken)) (λ no. (w, refl, count))
 
-pub version_both : (due : Option Version) (rest : Option (List ℕ)) → MatchResult (version_in due rest) (λ v. (rest ≡ Some (version_text v)) × (takes due v ≡ true)) (IsVersionFault rest)
+pub version_both : (due : Due) (rest : Option (List ℕ)) → MatchResult (version_in due rest) (λ v. (rest ≡ Some (version_text v)) × (takes due v ≡ true)) (IsVersionFault rest)
 version_both due None = tt
 version_both due (Some w) = if_both _ _ (is_count w) _ _ (λ count. version_known due w (version_named w) count refl) (λ no. tt)
 

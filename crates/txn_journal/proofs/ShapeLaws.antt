@@ -62,7 +62,7 @@ some_words : (cs : List ℕ) (w : List ℕ) (ws : List (List ℕ)) → w ∷ ws 
 some_words [] w ws e = absurd (let k = ap (λ (x : List (List ℕ)). length x) e in omega arith)
 some_words (c ∷ cs) w ws e = omega arith
 
-columns_both : (limit : ℕ) (text : List ℕ) → is_columns_text text ≡ true → MatchResult (columns_in limit text) (ColumnsFound limit text) IsSchema
+pub columns_both : (limit : ℕ) (text : List ℕ) → is_columns_text text ≡ true → MatchResult (columns_in limit text) (ColumnsFound limit text) IsSchema
 unfolding columns_in
 columns_both limit text fits = found_weaker (numbers_from limit [] (parts_of 44 text)) _ _ _ (λ cs f.
     let words : parts_of 44 text ≡ column_words cs = f.spelt ∙ ap column_words f.whole in
@@ -145,7 +145,7 @@ numbers_again limit before (c ∷ cs) small e =
 list_some : (cs : List ℕ) → is_column_list cs ≡ true → (0 < length cs) × (are_distinct cs ≡ true)
 list_some cs e = let p = and_parts (leb 1 (length cs)) (are_distinct cs) e in let some = leb-true 1 (length cs) p.0 in (omega (arith, some), p.1)
 
-columns_again : (limit : ℕ) (cs : List ℕ) → limit ≤ 4096 → are_below limit cs ≡ true → is_column_list cs ≡ true → columns_in limit (columns_text cs) ≡ Ok cs
+pub columns_again : (limit : ℕ) (cs : List ℕ) → limit ≤ 4096 → are_below limit cs ≡ true → is_column_list cs ≡ true → columns_in limit (columns_text cs) ≡ Ok cs
 unfolding columns_in
 columns_again limit cs few e list =
     let small = small_below limit cs few e in
@@ -159,7 +159,7 @@ keys_again limit before (k ∷ ks) few e lists =
     let q = and_parts (is_column_list k) (list_all is_column_list ks) lists in
     rw (columns_again limit k few p.0 q.0) (keys_again limit (before ++ k ∷ []) ks few p.1 q.1) ∙ ap ok_list (append_assoc before (k ∷ []) ks)
 
-columns_fit : (limit : ℕ) (cs : List ℕ) → limit ≤ 4096 → are_below limit cs ≡ true → is_column_list cs ≡ true → is_columns_text (columns_text cs) ≡ true
+pub columns_fit : (limit : ℕ) (cs : List ℕ) → limit ≤ 4096 → are_below limit cs ≡ true → is_column_list cs ≡ true → is_columns_text (columns_text cs) ≡ true
 columns_fit limit cs few e list = let l = list_some cs list in columns_written cs (small_below limit cs few e) l.0 l.1
 
 keys_fit : (limit : ℕ) (keys : List (List ℕ)) → limit ≤ 4096 → list_all (are_below limit) keys ≡ true → list_all is_column_list keys ≡ true → list_all is_columns_text (map columns_text keys) ≡ true
@@ -224,6 +224,20 @@ few_of_most Wide n e = leb-true n 4096 e
 
 pub bounds_of : (limits : Limits) (tables : List Table) (t : Table) → FitsTable limits t → Allowed tables t → t.columns ≤ 4096
 bounds_of limits tables t f a = few_of_most limits t.columns (bounds limits tables t f a).few
+
+few_uniques : (limits : Limits) (n : ℕ) → leb n (most_uniques limits) ≡ true → n ≤ 64
+few_uniques Narrow n e = let few = leb-true n 8 e in omega (arith, few)
+few_uniques Wide n e = leb-true n 64 e
+
+pub uniques_of : (limits : Limits) (tables : List Table) (t : Table) → FitsTable limits t → Allowed tables t → length t.uniques ≤ 64
+uniques_of limits tables t f a = few_uniques limits (length t.uniques) (bounds limits tables t f a).uniques
+
+-- a small number, as it is written
+pub number_again : (n : ℕ) → n ≤ 4096 → (is_count (decimal n) ≡ true) × (count_of (decimal n) ≡ Some n)
+number_again n few = (is_count_decimal n (omega (arith, few)), count_again n (omega (arith, few)))
+
+pub number_found : (word : List ℕ) (n : ℕ) → count_of word ≡ Some n → word ≡ decimal n
+number_found word n e = (count_found word n e).0
 
 hidden_fits : (limits : Limits) (n m : ℕ) → MayHide limits m → ltb m n ≡ true → n ≤ 4096 → may_hide limits (hidden_text m) ≡ true
 hidden_fits limits n zero may lt few = refl

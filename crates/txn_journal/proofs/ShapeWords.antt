@@ -1,10 +1,10 @@
--- The words of a table's line: reading is sound and complete.
-use Rattle.std.proofs.Common.{◌≡◌, ℕ, Bool, true, false, List, [], ◌∷◌, ◌++◌, Option, Some, None, Result, Ok, refl, sym, ap, ◌∙◌, append_assoc}
+-- The words of the lines of tables and references: reading is sound and complete.
+use Rattle.std.proofs.Common.{◌≡◌, ℕ, Bool, true, false, List, [], ◌∷◌, ◌++◌, Option, Some, None, Result, Ok, refl, sym, ap, ◌∙◌, append_assoc, ◌<◌, Bor, length, map, Err, arith}
 use Rattle.std.specs.Prelude.{◌&&◌, codes, MatchResult}
 use Rattle.std.specs.List.{list_all}
 use Rattle.std.specs.Str.{bytes_eq}
 use Rattle.std.proofs.lemmas.Bool.{and_parts}
-use Rattle.std.proofs.lemmas.List.{append-nil}
+use Rattle.std.proofs.lemmas.List.{append-nil, length-map}
 use Rattle.std.proofs.lemmas.Slice.Eq.{bytes_eq-Decides}
 use Rattle.rows.specs.declared.limits.Limits.{Limits}
 use Rattle.rows.specs.declared.limits.Limits.TheVariants.{Narrow, Wide}
@@ -21,6 +21,8 @@ use Rattle.txn_journal.proofs.Judged.{then_both, if_both, found_weaker, IsBody}
 use Rattle.txn_journal.proofs.LineReads.{name_both}
 use Rattle.row_images.proofs.PartLaws.{parts_joined, AllLack, parts_again}
 use Rattle.txn_journal.proofs.SplitLaws.{joined_lacks, count_no_blank, count_no_feed, columns_no_blank, columns_no_feed}
+use Rattle.txn_journal.specs.References.{ReferenceShape, cascade_words, reference_words, reference_text, FitsReference, name_in, cascade_in, reference_of, reference_in, reference_behind}
+use Rattle.txn_journal.specs.declared.fault.Cause.TheVariants as causes
 
 -- ---- reading is sound
 
@@ -126,3 +128,76 @@ unfolding shape_in shape_of
 shape_again limits s f =
     ap (shape_of limits) (parts_again 32 s.name (s.columns ∷ (codes "pk") ∷ s.primary ∷ (unique_words s.uniques ++ hidden_words s.hidden)) (shape_words_no_blank limits s f))
     ∙ rw (f.name, f.columns, f.primary, behind_again limits [] s.uniques s.hidden f.uniques f.hidden) refl
+
+-- ---- the words of a reference
+
+cascade_both : (words : List (List ℕ)) → MatchResult (cascade_in words) (λ c. words ≡ cascade_words c) IsBody
+cascade_both [] = refl
+cascade_both (w ∷ []) = if_both _ _ (bytes_eq w (codes "cascade")) _ _ (λ is. ap (λ (x : List ℕ). x ∷ []) ((bytes_eq-Decides w (codes "cascade")).0 is)) (λ no. tt)
+cascade_both (v ∷ w ∷ ws) = tt
+
+record ReferenceFound (limits : Limits) (words : List (List ℕ)) (s : ReferenceShape) : Type 0 where
+  spelt : words ≡ reference_words s
+  fits : FitsReference limits s
+
+reference_words_both : (limits : Limits) (words : List (List ℕ)) → MatchResult (reference_of limits words) (ReferenceFound limits words) IsBody
+unfolding reference_of
+reference_words_both limits [] = tt
+reference_words_both limits (c ∷ []) = tt
+reference_words_both limits (c ∷ cs ∷ []) = tt
+reference_words_both limits (c ∷ cs ∷ p ∷ []) = tt
+reference_words_both limits (c ∷ cs ∷ p ∷ k ∷ words) = then_both _ _ (name_in limits c) _ (name_both limits c) (λ child h. then_both _ _ (name_in limits p) _ (name_both limits p) (λ parent g. if_both _ _ (is_columns_text cs && is_count k) _ _ (λ is.
+    let q = and_parts (is_columns_text cs) (is_count k) is in
+    then_both _ _ (cascade_in words) _ (cascade_both words) (λ cascade e. record {
+      spelt = (λ i. h.0 i ∷ cs ∷ g.0 i ∷ k ∷ e i);
+      fits = record { child = h.1; columns = q.0; parent = g.1; key = q.1 };
+    })) (λ no. tt)))
+
+pub reference_both : (limits : Limits) (rest : Option (List ℕ)) → MatchResult (reference_behind limits rest) (λ s. (rest ≡ Some (reference_text s)) × FitsReference limits s) IsBody
+unfolding reference_in
+reference_both limits None = tt
+reference_both limits (Some text) = found_weaker (reference_of limits (parts_of 32 text)) _ _ _ (λ s f. (ap Some (sym (parts_joined 32 text) ∙ ap (joined_by 32) f.spelt), f.fits)) (reference_words_both limits (parts_of 32 text))
+
+-- fewer words than four are no reference
+few_reference_words : (limits : Limits) (words : List (List ℕ)) → length words < 4 → reference_of limits words ≡ Err causes.Body
+unfolding reference_of
+few_reference_words limits [] few = refl
+few_reference_words limits (a ∷ []) few = refl
+few_reference_words limits (a ∷ b ∷ []) few = refl
+few_reference_words limits (a ∷ b ∷ c ∷ []) few = refl
+few_reference_words limits (a ∷ b ∷ c ∷ d ∷ words) few = absurd (omega (arith, few))
+
+pub too_few : (limits : Limits) (text : List ℕ) (words : List (Bor (List ℕ))) → map (λ w. w.now) words ≡ parts_of 32 text → length words < 4 → reference_in limits text ≡ Err causes.Body
+unfolding reference_in
+too_few limits text words is few =
+    let count = length-map words (λ (w : Bor (List ℕ)). w.now) in
+    ap (reference_of limits) (sym is) ∙ few_reference_words limits (map (λ w. w.now) words) (omega (arith, few, count))
+
+-- they are read again
+
+cascade_again : (c : Bool) → cascade_in (cascade_words c) ≡ Ok c
+cascade_again true = refl
+cascade_again false = refl
+
+cascade_no_blank : (c : Bool) → AllLack 32 (cascade_words c)
+cascade_no_blank true = (refl, tt)
+cascade_no_blank false = tt
+
+cascade_no_feed : (c : Bool) → AllLack 10 (cascade_words c)
+cascade_no_feed true = (refl, tt)
+cascade_no_feed false = tt
+
+reference_no_blank : (limits : Limits) (s : ReferenceShape) → FitsReference limits s → AllLack 32 (reference_words s)
+reference_no_blank limits s f = (name_no_blank limits s.child f.child, (columns_no_blank s.columns f.columns, (name_no_blank limits s.parent f.parent, (count_no_blank s.key f.key, cascade_no_blank s.cascade))))
+
+reference_no_feed : (limits : Limits) (s : ReferenceShape) → FitsReference limits s → AllLack 10 (reference_words s)
+reference_no_feed limits s f = (name_no_feed limits s.child f.child, (columns_no_feed s.columns f.columns, (name_no_feed limits s.parent f.parent, (count_no_feed s.key f.key, cascade_no_feed s.cascade))))
+
+pub reference_one : (limits : Limits) (s : ReferenceShape) → FitsReference limits s → lacks 10 (reference_text s) ≡ true
+reference_one limits s f = joined_lacks 32 10 (reference_words s) refl (reference_no_feed limits s f)
+
+pub reference_again : (limits : Limits) (s : ReferenceShape) → FitsReference limits s → reference_behind limits (Some (reference_text s)) ≡ Ok s
+unfolding reference_in reference_of
+reference_again limits s f =
+    ap (reference_of limits) (parts_again 32 s.child (s.columns ∷ s.parent ∷ s.key ∷ cascade_words s.cascade) (reference_no_blank limits s f))
+    ∙ rw (f.child, f.parent, f.columns, f.key, cascade_again s.cascade) refl

@@ -17,14 +17,15 @@ use Rattle.txn_journal.proofs.Pieces.{eats_append, stopped_stays}
 use Rattle.txn_journal.proofs.FormatLaws.{Laws, reads_back}
 use Rattle.txn_journal.proofs.JournalLaws.{IsSoundAlone, laws_as}
 use Rattle.txn_journal.proofs.BundleLaws.{right_are_stamps}
+use Rattle.txn_journal.specs.declared.lines.Due.TheVariants.{Only}
 
-due_two : (version : Version) (stamps bytes : List ℕ) (j : JournalValue) → takes (Some Two) version ≡ true → WritesAs version stamps bytes j → WritesAs Two stamps bytes j
+due_two : (version : Version) (stamps bytes : List ℕ) (j : JournalValue) → takes (Only Two) version ≡ true → WritesAs version stamps bytes j → WritesAs Two stamps bytes j
 due_two One stamps bytes j is w = absurd (let k = is in cc)
 due_two Two stamps bytes j is w = w
 due_two Three stamps bytes j is w = absurd (let k = is in cc)
 
-pub timestamped_laws : Laws timestamped_journals (IsSoundAlone (Some Two))
-timestamped_laws = laws_as (Some Two) timestamped_of WritesTimestamped (record {
+pub timestamped_laws : Laws timestamped_journals (IsSoundAlone (Only Two))
+timestamped_laws = laws_as (Only Two) timestamped_of WritesTimestamped (record {
   spelled = λ bytes s w. due_two s.version s.stamps bytes s.journal w.0 w.1;
   written = λ bytes v w. (record { version = Two; stamps = v.last_committed; journal = v.journal }, (refl, w), λ s e. ap (λ (x : WrittenJournal). record { journal = x.journal; last_committed = x.stamps }) e);
 })
@@ -37,7 +38,7 @@ right_text tables j w = record { written = w; stamps_fit = right_are_stamps Two 
 pub right_read : (tables : List Table) (j : JournalValue) → IsWritten Narrow j → IsReadBack (with_timestamps tables j)
 right_read tables j w =
     let v = with_timestamps tables j in
-    reads_back timestamped_journals (IsSoundAlone (Some Two)) timestamped_laws (timestamped_text v) v (right_text tables j w)
+    reads_back timestamped_journals (IsSoundAlone (Only Two)) timestamped_laws (timestamped_text v) v (right_text tables j w)
 
 -- a text of version 1 is refused at its first line
 

@@ -38,7 +38,11 @@ use Rattle.txn_journal.specs.Shapes.{FitsTable, shape_for}
 use Rattle.txn_journal.specs.Spelling.{FitsChange, FitsEntry, IsWritten}
 use Rattle.txn_journal.specs.Stamps.{all_stamps}
 use Rattle.txn_journal.specs.BundleStates.{BundleValue, ok_rows, with_opening}
-use Rattle.txn_journal.specs.BundleText.{BundleLine, Own, Heads, Names, Starts, Has, Done, table_lines, row_lines, channels_lines, bundle_text, bundle_spelling, FitsRow, AreAdded, put_all, AreOpening, AreNamed, entry_fits, AreBrought, IsWrittenBundle, IsWritableBy, spelling_by, WritesBundleBy}
+use Rattle.txn_journal.specs.BundleText.{BundleLine, Own, Heads, Names, Starts, Has, Done, table_lines, reference_lines, row_lines, assumption_lines, channels_lines, bundle_text, bundle_spelling, FitsRow, AreAdded, put_all, AreOpening, AreNamed, entry_fits, AreBrought, IsWrittenBundle, IsWritableBy, spelling_by, WritesBundleBy}
+use Rattle.txn_journal.specs.References.{AreReferences}
+use Rattle.txn_journal.specs.Assumptions.{AreAssumptions}
+use Rattle.txn_journal.specs.declared.references.Reference.{Reference}
+use Rattle.txn_journal.specs.declared.assumptions.Assumption.{Assumption}
 use Rattle.rows.specs.Listing.{rows_listed}
 use Rattle.txn_journal.specs.Lines.{takes}
 use Rattle.txn_journal.specs.Versions.{limits_of}
@@ -54,8 +58,9 @@ use Rattle.txn_journal.proofs.NameLemmas.{wide_name}
 use Rattle.txn_journal.proofs.ShapeLaws.{allowed}
 use Rattle.txn_journal.proofs.SoundLines.{all_wide, image_wide}
 use Rattle.txn_journal.proofs.FormatLaws.{reads_back}
-use Rattle.txn_journal.proofs.BundleSound.{version_is}
+use Rattle.txn_journal.proofs.BundleTaken.{version_is}
 use Rattle.txn_journal.proofs.BundleLaws.{IsSoundBundle, bundle_laws, relisted_by}
+use Rattle.txn_journal.specs.declared.lines.Due.TheVariants.{Any}
 
 -- ---- tables and keys
 
@@ -275,15 +280,26 @@ brought_wide ts [] (j ∷ js) h = h
 brought_wide ts (c ∷ cs) [] h = h
 brought_wide ts (c ∷ cs) (j ∷ js) (w, more) = (record { written = written_wide j w.written; fitting = entries_fit ts j.entries ∙ w.fitting }, brought_wide ts cs js more)
 
+-- texts with narrow limits have neither references nor assumptions
+references_wide : (ts : List Table) (rs : List Reference) → AreReferences Narrow ts rs → AreReferences Wide (map widened_table ts) rs
+references_wide ts [] h = record { few = h.few; each = tt }
+references_wide ts (r ∷ rs) h = absurd h.each.0.wide
+
+assumed_wide : (ts : List Table) (cs : List BundleChannel) (said : List Assumption) → AreAssumptions Narrow ts cs said → AreAssumptions Wide (map widened_table ts) cs said
+assumed_wide ts cs [] h = record { few = h.few; each = tt }
+assumed_wide ts cs (a ∷ said) h = absurd h.each.0
+
 pub bundle_wide : (rows : List TableRow) (b : BundleValue) → IsWrittenBundle Two rows b → IsWrittenBundle Three rows (widened b)
 bundle_wide rows b w = record {
   replica = w.replica;
   opened = w.opened;
   tables = added_wide [] b.start.schema w.tables;
+  references = references_wide b.start.schema b.references w.references;
   opening = opening_wide b.start.schema rows b.start.rows w.opening;
   named = named_wide [] b.channels w.named;
   few = w.few;
   brought = brought_wide b.start.schema b.channels b.journals w.brought;
+  assumed = assumed_wide b.start.schema b.channels b.assumptions w.assumed;
 }
 
 -- ---- its text
@@ -297,7 +313,8 @@ stamps_same ts [] = refl
 stamps_same ts (j ∷ js) = λ i. stamps_wide ts [] j.entries i ∷ stamps_same ts js i
 
 pub spelling_wide : (rows : List TableRow) (b : BundleValue) → bundle_spelling Three rows (widened b) ≡ bundle_spelling Three rows b
-spelling_wide rows b = λ i. bundle_text ((((Own (Heads Three) ∷ Own (Names b.replica) ∷ Own (Starts b.opened) ∷ []) ++ tables_same b.start.schema i) ++ row_lines rows ++ channels_lines Three b.channels (stamps_same b.start.schema b.journals i) b.journals) ++ Own Done ∷ [])
+spelling_wide rows b = λ i.
+    bundle_text (((((Own (Heads Three) ∷ Own (Names b.replica) ∷ Own (Starts b.opened) ∷ []) ++ tables_same b.start.schema i) ++ (reference_lines b.references ++ row_lines rows)) ++ channels_lines Three b.channels (stamps_same b.start.schema b.journals i) b.journals) ++ (assumption_lines b.assumptions ++ Own Done ∷ []))
 
 -- ---- what version 3 writes of it
 
@@ -315,7 +332,7 @@ widens version bytes b narrow (v, is, w) =
 pub widens_read : IsReadWidened
 widens_read version bytes b narrow w =
     let u = widens version bytes b narrow w in
-    reads_back (bundles None) (IsSoundBundle None) (bundle_laws None) (spelling_by Three b) (widened b) (u.0, any_version u.0, u.2)
+    reads_back (bundles Any) (IsSoundBundle Any) (bundle_laws Any) (spelling_by Three b) (widened b) (u.0, any_version u.0, u.2)
   where
-    any_version : (v : Version) → takes None v ≡ true
+    any_version : (v : Version) → takes Any v ≡ true
     any_version v = refl

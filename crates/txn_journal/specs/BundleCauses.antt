@@ -12,8 +12,11 @@ use Rattle.row_images.specs.Words.{count_of}
 use Rattle.txn_journal.specs.Wordings.{Wording, HasCauseBy}
 use Rattle.txn_journal.specs.Causes.{HasCause}
 use Rattle.txn_journal.specs.Shapes.{Shape, FitsShape, FitsTable, shape_for}
-use Rattle.txn_journal.specs.BundleStates.{BundleStanding, word_of, is_due_in, after_tables, has_channel, with_opening}
-use Rattle.txn_journal.specs.BundleText.{OwnLine, Heads, Names, Starts, Has, Puts, Opens, Done, own_text, FitsRow}
+use Rattle.txn_journal.specs.References.{ReferenceShape, FitsReference, reference_shape, IsReference, most_references}
+use Rattle.txn_journal.specs.Assumptions.{FitsAssumption, last_of, may_follow, has_channel, may_assume, most_assumptions}
+use Rattle.txn_journal.specs.declared.references.Reference.{Reference}
+use Rattle.txn_journal.specs.BundleStates.{BundleStanding, word_of, is_due_in, after_tables, with_opening}
+use Rattle.txn_journal.specs.BundleText.{OwnLine, Heads, Names, Starts, Has, Refers, Puts, Opens, Assumes, Done, own_text, FitsRow}
 use Rattle.txn_journal.specs.declared.bundle_draft.Part.{Part}
 use Rattle.txn_journal.specs.declared.bundle_draft.Part.TheVariants as parts
 use Rattle.txn_journal.specs.declared.bundle_draft.Word.{Word}
@@ -27,14 +30,17 @@ use Rattle.txn_journal.specs.declared.lines.LinePlace.TheVariants as places
 use Rattle.txn_journal.specs.declared.lines.Version.{Version}
 use Rattle.txn_journal.specs.declared.fault.Cause.{Cause}
 use Rattle.txn_journal.specs.declared.fault.Cause.TheVariants as causes
+use Rattle.txn_journal.specs.declared.lines.Due.{Due}
 
 abbrev pub own_word_text : Word → List ℕ
 own_word_text words.Bundle = codes "bundle"
 own_word_text words.Replica = codes "replica"
 own_word_text words.Opening = codes "opening"
 own_word_text words.Table = codes "table"
+own_word_text words.Reference = codes "fk"
 own_word_text words.Row = codes "row"
 own_word_text words.Channel = codes "channel"
+own_word_text words.Assume = codes "assume"
 own_word_text words.Done = codes "done"
 
 -- the first word of a line
@@ -43,19 +49,23 @@ own_word (Heads version) = words.Bundle
 own_word (Names replica) = words.Replica
 own_word (Starts opened) = words.Opening
 own_word (Has shape) = words.Table
+own_word (Refers shape) = words.Reference
 own_word (Puts r) = words.Row
 own_word (Opens c) = words.Channel
+own_word (Assumes a) = words.Assume
 own_word Done = words.Done
 
--- its version is due, and its words are those of a source, a set, a name, numbers and values
-abbrev pub FitsOwn : Option Version → Limits → OwnLine → Type 0
-FitsOwn due limits (Heads version) = takes due version ≡ true
-FitsOwn due limits (Names replica) = IsSource replica
-FitsOwn due limits (Starts opened) = IsWrittenSet opened
-FitsOwn due limits (Has shape) = FitsShape limits shape
-FitsOwn due limits (Puts r) = FitsRow limits r
-FitsOwn due limits (Opens c) = is_named limits c.name ≡ true
-FitsOwn due limits Done = Unit {0}
+-- after what has come: its version is due, its words are those of a source, a set, a name, numbers and values, and an assumption is in order
+abbrev pub FitsOwn : BundleStanding → OwnLine → Type 0
+FitsOwn s (Heads version) = takes s.due version ≡ true
+FitsOwn s (Names replica) = IsSource replica
+FitsOwn s (Starts opened) = IsWrittenSet opened
+FitsOwn s (Has shape) = FitsShape (limits_of s.version) shape
+FitsOwn s (Refers shape) = FitsReference (limits_of s.version) shape
+FitsOwn s (Puts r) = FitsRow (limits_of s.version) r
+FitsOwn s (Opens c) = is_named (limits_of s.version) c.name ≡ true
+FitsOwn s (Assumes a) = FitsAssumption (limits_of s.version) a × (may_follow (last_of (after_tables s).bundle.assumptions) a ≡ true)
+FitsOwn s Done = Unit {0}
 
 -- a table has a number of columns that is within the limits
 pub record HasWidth (limits : Limits) (s : Shape) : Type 0 where
@@ -87,18 +97,28 @@ PassesTableLimit limits tables shape = (most_uniques limits < length shape.uniqu
 abbrev pub HasNoPlace : Limits → List Table → Shape → Type 0
 HasNoPlace limits tables shape = (t : Table) → FitsTable limits t → shape ≡ shape_for t → table_fault tables t ≡ None → ⊥
 
--- a limit that the line passes: of tables, unique keys and columns, of values of a row and their bytes, and of channels
+-- no reference of this shape may be there
+abbrev pub RefersWrongly : Limits → List Table → ReferenceShape → Type 0
+RefersWrongly limits tables shape = (r : Reference) → IsReference limits tables r → shape ≡ reference_shape r → ⊥
+
+-- a limit that the line passes: of tables, unique keys and columns, of references, of values of a row and their bytes, of channels, and of
+-- assumptions
 abbrev pub PassesOwnLimit : BundleStanding → OwnLine → Type 0
 PassesOwnLimit s (Has shape) = PassesTableLimit (limits_of s.version) s.tables shape
+PassesOwnLimit s (Refers shape) = most_references ≤ length (after_tables s).bundle.references
 PassesOwnLimit s (Puts r) = is_image_writable (limits_of s.version) r.row ≡ false
 PassesOwnLimit s (Opens c) = 256 ≤ length s.bundle.channels
+PassesOwnLimit s (Assumes a) = most_assumptions ≤ length (after_tables s).bundle.assumptions
 PassesOwnLimit s _ = ⊥
 
--- what the lines before do not allow: a table that may not come after the others, a row that may not be put, a name that a channel has
+-- what the lines before do not allow: a table that may not come after the others, a reference to what is not there, a row that may not be
+-- put, a name that a channel has, an assumption about what is not there
 abbrev pub Clashes : BundleStanding → OwnLine → Type 0
 Clashes s (Has shape) = HasNoPlace (limits_of s.version) s.tables shape
+Clashes s (Refers shape) = RefersWrongly (limits_of s.version) (after_tables s).bundle.start.schema shape
 Clashes s (Puts r) = (rows : Rows) → with_opening (after_tables s).bundle.start r ≡ Ok rows → ⊥
 Clashes s (Opens c) = has_channel s.bundle.channels c.name ≡ true
+Clashes s (Assumes a) = may_assume (after_tables s).bundle.start.schema (after_tables s).bundle.channels a ≡ false
 Clashes s _ = ⊥
 
 -- the lines of the bundle's own that may come next; no GTID is in them
@@ -107,12 +127,12 @@ own_wording s = record {
   Word = Word;
   Line = OwnLine;
   word_of = word_of;
-  is_due = is_due_in s.part;
+  is_due = is_due_in s.version s.part;
   header = words.Bundle;
   word_text = own_word_text;
   line_text = own_text;
   word = own_word;
-  Fits = FitsOwn s.due (limits_of s.version);
+  Fits = FitsOwn s;
   PassesLimit = PassesOwnLimit s;
   Clashes = Clashes s;
   IsMisnumbered = λ l. ⊥;

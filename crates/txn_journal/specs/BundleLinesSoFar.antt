@@ -2,7 +2,7 @@
 use Rattle.std.specs.Prelude.{List, [], ◌∷◌, ◌++◌, map, Option, Some, None}
 use Rattle.rows.specs.declared.change.TableRow.{TableRow}
 use Rattle.txn_journal.specs.BundleStates.{BundleStanding}
-use Rattle.txn_journal.specs.BundleText.{BundleLine, Own, Inner, Heads, Names, Opens, Done, tables_lines, bundle_front}
+use Rattle.txn_journal.specs.BundleText.{BundleLine, Own, Inner, Heads, Names, Opens, Done, assumption_lines, tables_lines, bundle_front}
 use Rattle.txn_journal.specs.Stamps.{all_stamps}
 use Rattle.txn_journal.specs.LinesSoFar.{lines_so_far}
 use Rattle.txn_journal.specs.Machine.{Standing}
@@ -24,10 +24,12 @@ bundle_lines_so_far_at parts.Header rows s = []
 bundle_lines_so_far_at parts.Replica rows s = Own (Heads s.version) ∷ []
 bundle_lines_so_far_at parts.Opening rows s = Own (Heads s.version) ∷ Own (Names s.bundle.replica) ∷ []
 bundle_lines_so_far_at parts.Tables rows s = tables_lines s.version s.bundle.replica s.bundle.opened s.tables
+bundle_lines_so_far_at parts.References rows s = front_lines_so_far rows s
 bundle_lines_so_far_at parts.Rows rows s = front_lines_so_far rows s
 bundle_lines_so_far_at parts.Channels rows s = front_lines_so_far rows s
 bundle_lines_so_far_at parts.Journal rows s = front_lines_so_far rows s ++ inner_lines_so_far s.channel s.draft
-bundle_lines_so_far_at parts.Ended rows s = front_lines_so_far rows s ++ Own Done ∷ []
+bundle_lines_so_far_at parts.Assumptions rows s = front_lines_so_far rows s ++ assumption_lines s.bundle.assumptions
+bundle_lines_so_far_at parts.Ended rows s = front_lines_so_far rows s ++ (assumption_lines s.bundle.assumptions ++ Own Done ∷ [])
 
 -- the lines of a bundle that has come so far, with its rows in this order
 abbrev pub bundle_lines_so_far : List TableRow → BundleStanding → List BundleLine

@@ -18,6 +18,8 @@ use Rattle.txn_journal.specs.declared.bundle_draft.Part.TheVariants as parts
 use Rattle.txn_journal.specs.BundleText.{BundleLine, bundle_line_text, WritesBundleBy, AlmostWritesBundle}
 use Rattle.txn_journal.specs.BundleLinesSoFar.{bundle_lines_so_far}
 use Rattle.txn_journal.specs.BundleCauses.{HasBundleCause}
+use Rattle.txn_journal.specs.declared.lines.Due.{Due}
+use Rattle.txn_journal.specs.declared.lines.Due.TheVariants.{Any}
 
 abbrev pub is_inside : Option Keyword → Bool
 is_inside (Some keywords.Txn) = true
@@ -32,7 +34,7 @@ is_entry_open parts.Journal place = is_within place
 is_entry_open _ place = false
 
 -- bundles of a version that is due, or of any
-abbrev pub bundles : Option Version → Format
+abbrev pub bundles : Due → Format
 bundles due = record {
   Line = BundleLine;
   State = BundleStanding;
@@ -52,25 +54,25 @@ bundles due = record {
 }
 
 -- before the first byte
-abbrev pub bundle_start : Option Version → Progress BundleStanding
+abbrev pub bundle_start : Due → Progress BundleStanding
 bundle_start due = start_of (bundles due)
 
 -- a bundle, byte by byte
 abbrev pub feed_bundle_bytes : Progress BundleStanding → List ℕ → Progress BundleStanding
-feed_bundle_bytes p bytes = feed_bytes_by (bundles None) p bytes
+feed_bundle_bytes p bytes = feed_bytes_by (bundles Any) p bytes
 
 -- why bytes are not taken, though nothing is wrong with them: out of memory, or the opening set or that of a channel's journal has too many
 -- sources or intervals after some of them
 abbrev pub IsFaultOfBundle : Progress BundleStanding → List ℕ → SetFault → Type 0
-IsFaultOfBundle p bytes fault = IsFaultBy (bundles None) p bytes fault
+IsFaultOfBundle p bytes fault = IsFaultBy (bundles Any) p bytes fault
 
 -- the end of the text
 abbrev pub closing_bundle : Progress BundleStanding → Result BundleValue JournalFault
-closing_bundle p = closing_by (bundles None) p
+closing_bundle p = closing_by (bundles Any) p
 
 -- the bytes are read as this bundle, by the fold over them
 abbrev pub IsReadAs : List ℕ → BundleValue → Type 0
-IsReadAs bytes b = closing_bundle (feed_bundle_bytes (bundle_start None) bytes) ≡ Ok b
+IsReadAs bytes b = closing_bundle (feed_bundle_bytes (bundle_start Any) bytes) ≡ Ok b
 
 -- In whatever two pieces bytes come, what is read is the same.
 abbrev pub AnyCutOfBundles : Type 0

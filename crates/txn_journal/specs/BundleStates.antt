@@ -16,7 +16,11 @@ use Rattle.rows.specs.Apply.{Rows, apply}
 use Rattle.rows.specs.Fits.{misfit}
 use Rattle.rows.specs.Database.{Database, opening}
 use Rattle.rows.specs.declared.limits.Limits.{Limits}
-use Rattle.txn_journal.specs.Versions.{limits_of}
+use Rattle.txn_journal.specs.Versions.{limits_of, has_references}
+use Rattle.txn_journal.specs.References.{ReferenceShape, reference_behind, reference_to, most_references}
+use Rattle.txn_journal.specs.Assumptions.{has_channel, next_assumption, may_assume, most_assumptions}
+use Rattle.txn_journal.specs.declared.references.Reference.{Reference}
+use Rattle.txn_journal.specs.declared.assumptions.Assumption.{Assumption}
 use Rattle.journal.specs.Journals.{JournalValue}
 use Rattle.journal.specs.Writing.{is_image_writable}
 use Rattle.row_images.specs.Words.{first_word, others}
@@ -35,24 +39,29 @@ use Rattle.txn_journal.specs.declared.fault.Cause.{Cause}
 use Rattle.txn_journal.specs.declared.fault.Cause.TheVariants as causes
 use Rattle.txn_journal.specs.declared.lines.Version.{Version}
 use Rattle.txn_journal.specs.declared.lines.Version.TheVariants.{One}
+use Rattle.txn_journal.specs.declared.lines.Due.{Due}
+use Rattle.txn_journal.specs.declared.lines.Due.TheVariants.{Any, Only}
 
--- a replica, the set of GTIDs with which it begins, its tables and opening rows, and its channels, each with the journal that it brings
+-- a replica, the set of GTIDs with which it begins, its tables and opening rows, what refers to keys of tables, its channels, each with the
+-- journal that it brings, and what is assumed
 pub record BundleValue : Type 0 where
   pub replica : ℕ
   pub opened : Gtids
   pub start : Database
+  pub references : List Reference
   pub channels : List BundleChannel
   pub journals : List JournalValue
+  pub assumptions : List Assumption
 
--- a bundle without rows and channels
+-- a bundle that has tables alone
 abbrev pub bare : ℕ → Gtids → List Table → BundleValue
-bare replica opened tables = record { replica = replica; opened = opened; start = record { schema = tables; rows = map.empty }; channels = []; journals = [] }
+bare replica opened tables = record { replica = replica; opened = opened; start = record { schema = tables; rows = map.empty }; references = []; channels = []; journals = []; assumptions = [] }
 
 -- What the lines so far have made. `due` is the version that is due, if not each known one is; the tables are in `tables` until the first
 -- line after them.
 pub record BundleStanding : Type 0 where
   pub part : Part
-  pub due : Option Version
+  pub due : Due
   pub version : Version
   pub tables : List Table
   pub bundle : BundleValue
@@ -60,8 +69,8 @@ pub record BundleStanding : Type 0 where
   pub draft : Standing
 
 -- before the first line
-abbrev pub no_bundle : Option Version → BundleStanding
-no_bundle due = record { part = parts.Header; due = due; version = One; tables = []; bundle = bare 0 set.empty []; channel = None; draft = empty None }
+abbrev pub no_bundle : Due → BundleStanding
+no_bundle due = record { part = parts.Header; due = due; version = One; tables = []; bundle = bare 0 set.empty []; channel = None; draft = empty Any }
 
 -- the opening set has too many sources or intervals, or the journal of the channel that is open has seen too many
 abbrev pub IsFullBundle : SetFault → BundleStanding → Type 0
@@ -84,26 +93,49 @@ word_of word =
     else if bytes_eq word (codes "replica") then Some words.Replica
     else if bytes_eq word (codes "opening") then Some words.Opening
     else if bytes_eq word (codes "table") then Some words.Table
+    else if bytes_eq word (codes "fk") then Some words.Reference
     else if bytes_eq word (codes "row") then Some words.Row
     else if bytes_eq word (codes "channel") then Some words.Channel
+    else if bytes_eq word (codes "assume") then Some words.Assume
     else if bytes_eq word (codes "done") then Some words.Done
     else None
 
--- the words that are due in a part
-abbrev pub is_due_in : Part → Word → Bool
-is_due_in parts.Header words.Bundle = true
-is_due_in parts.Replica words.Replica = true
-is_due_in parts.Opening words.Opening = true
-is_due_in parts.Tables words.Table = true
-is_due_in parts.Tables words.Row = true
-is_due_in parts.Tables words.Channel = true
-is_due_in parts.Tables words.Done = true
-is_due_in parts.Rows words.Row = true
-is_due_in parts.Rows words.Channel = true
-is_due_in parts.Rows words.Done = true
-is_due_in parts.Channels words.Channel = true
-is_due_in parts.Channels words.Done = true
-is_due_in _ _ = false
+-- the words that a part has
+abbrev pub is_in_part : Part → Word → Bool
+is_in_part parts.Header words.Bundle = true
+is_in_part parts.Replica words.Replica = true
+is_in_part parts.Opening words.Opening = true
+is_in_part parts.Tables words.Table = true
+is_in_part parts.Tables words.Reference = true
+is_in_part parts.Tables words.Row = true
+is_in_part parts.Tables words.Channel = true
+is_in_part parts.Tables words.Assume = true
+is_in_part parts.Tables words.Done = true
+is_in_part parts.References words.Reference = true
+is_in_part parts.References words.Row = true
+is_in_part parts.References words.Channel = true
+is_in_part parts.References words.Assume = true
+is_in_part parts.References words.Done = true
+is_in_part parts.Rows words.Row = true
+is_in_part parts.Rows words.Channel = true
+is_in_part parts.Rows words.Assume = true
+is_in_part parts.Rows words.Done = true
+is_in_part parts.Channels words.Channel = true
+is_in_part parts.Channels words.Assume = true
+is_in_part parts.Channels words.Done = true
+is_in_part parts.Assumptions words.Assume = true
+is_in_part parts.Assumptions words.Done = true
+is_in_part _ _ = false
+
+-- the words that a version has
+abbrev pub is_word_of : Version → Word → Bool
+is_word_of version words.Reference = has_references version
+is_word_of version words.Assume = has_references version
+is_word_of version _ = true
+
+-- the words that are due in a part of a text of this version
+abbrev pub is_due_in : Version → Part → Word → Bool
+is_due_in version part word = is_in_part part word && is_word_of version word
 
 -- ---- the rest of a line
 
@@ -124,9 +156,10 @@ channel_in limits (Some text) = do
 
 -- ---- one line more
 
--- the tables end here, if they have not ended yet
+-- the tables and the references end here, if they have not ended yet
 abbrev pub open_rows : Part → BundleStanding → BundleStanding
 open_rows parts.Tables s = record s { part = parts.Rows; tables = []; bundle = bare s.bundle.replica s.bundle.opened s.tables }
+open_rows parts.References s = record s { part = parts.Rows }
 open_rows _ s = s
 
 abbrev pub after_tables : BundleStanding → BundleStanding
@@ -144,9 +177,6 @@ unfoldable pub put_row : BundleStanding → TableRow → Result BundleStanding C
 put_row s r = do
   rows ← with_opening s.bundle.start r
   Ok (record s { bundle = record s.bundle { start = record s.bundle.start { rows = rows } } })
-
-abbrev pub has_channel : List BundleChannel → List ℕ → Bool
-has_channel channels name = list_any (λ c. eq_by_cmp (slice_cmp nat_cmp) c.name name) channels
 
 unfoldable pub version_line : BundleStanding → Option (List ℕ) → Result BundleStanding Cause
 version_line s rest = do
@@ -174,6 +204,17 @@ add_table_line s (Some text) = do
   tables ← added_table (limits_of s.version) s.tables text
   Ok (record s { tables = tables })
 
+-- one reference more
+unfoldable pub put_reference : BundleStanding → ReferenceShape → Result BundleStanding Cause
+put_reference s shape = do
+  reference ← (if nat_le most_references (length s.bundle.references) then Err causes.Limit else reference_to s.bundle.start.schema shape)
+  Ok (record s { part = parts.References; bundle = record s.bundle { references = s.bundle.references ++ reference ∷ [] } })
+
+unfoldable pub reference_line : BundleStanding → Option (List ℕ) → Result BundleStanding Cause
+reference_line s rest = do
+  shape ← reference_behind (limits_of s.version) rest
+  put_reference (after_tables s) shape
+
 -- one more opening row, if it is within the limits
 abbrev pub put_within : BundleStanding → TableRow → Result BundleStanding Cause
 put_within s r = if is_image_writable (limits_of s.version) r.row then put_row (after_tables s) r else Err causes.Limit
@@ -188,12 +229,25 @@ unfoldable pub join_channel : BundleStanding → BundleChannel → Result Bundle
 join_channel s channel =
     if nat_le 256 (length s.bundle.channels) then Err causes.Limit
     else if has_channel s.bundle.channels channel.name then Err causes.Schema
-    else Ok (record (after_tables s) { part = parts.Journal; channel = Some channel; draft = empty (Some s.version) })
+    else Ok (record (after_tables s) { part = parts.Journal; channel = Some channel; draft = empty (Only s.version) })
 
 unfoldable pub channel_line : BundleStanding → Option (List ℕ) → Result BundleStanding Cause
 channel_line s rest = do
   channel ← channel_in (limits_of s.version) rest
   join_channel s channel
+
+-- one assumption more
+unfoldable pub put_assumption : BundleStanding → Assumption → Result BundleStanding Cause
+put_assumption s a =
+    if nat_le most_assumptions (length s.bundle.assumptions) then Err causes.Limit
+    else if may_assume s.bundle.start.schema s.bundle.channels a
+    then Ok (record s { part = parts.Assumptions; bundle = record s.bundle { assumptions = s.bundle.assumptions ++ a ∷ [] } })
+    else Err causes.Schema
+
+unfoldable pub assume_line : BundleStanding → Option (List ℕ) → Result BundleStanding Cause
+assume_line s rest = do
+  a ← next_assumption (limits_of s.version) (after_tables s).bundle.assumptions rest
+  put_assumption (after_tables s) a
 
 unfoldable pub done_line : BundleStanding → Option (List ℕ) → Result BundleStanding Cause
 done_line s rest = do
@@ -205,14 +259,16 @@ own_step s words.Bundle rest = version_line s rest
 own_step s words.Replica rest = replica_line s rest
 own_step s words.Opening rest = opening_line s rest
 own_step s words.Table rest = add_table_line s rest
+own_step s words.Reference rest = reference_line s rest
 own_step s words.Row rest = row_line s rest
 own_step s words.Channel rest = channel_line s rest
+own_step s words.Assume rest = assume_line s rest
 own_step s words.Done rest = done_line s rest
 
 -- a line of the bundle's own
 unfoldable pub judge_own : BundleStanding → List ℕ → Result BundleStanding Cause
 judge_own s line = do
-  word ← due (is_due_in s.part) (word_of (first_word line))
+  word ← due (is_due_in s.version s.part) (word_of (first_word line))
   own_step s word (others line)
 
 -- the channel that is open joins the others with its journal
@@ -221,7 +277,7 @@ with_journal None b journal = b
 with_journal (Some channel) b journal = record b { channels = b.channels ++ channel ∷ []; journals = b.journals ++ journal ∷ [] }
 
 abbrev pub close_channel : BundleStanding → Standing → BundleStanding
-close_channel s draft = record s { part = parts.Channels; bundle = with_journal s.channel s.bundle draft.journal; channel = None; draft = empty (Some s.version) }
+close_channel s draft = record s { part = parts.Channels; bundle = with_journal s.channel s.bundle draft.journal; channel = None; draft = empty (Only s.version) }
 
 unfoldable pub after_inner : BundleStanding → Standing → BundleStanding
 after_inner s draft = if is_last draft.place then close_channel s draft else record s { draft = draft }

@@ -20,7 +20,11 @@ use Rattle.gtid_set.specs.Sets.{Gtids}
 use Rattle.txn_journal.specs.Lines.{◌>>=◌, takes}
 use Rattle.txn_journal.specs.Machine.{fits}
 use Rattle.txn_journal.specs.Shapes.{Shape, shape_text, FitsTable, shape_for}
-use Rattle.txn_journal.specs.BundleStates.{BundleValue, has_channel, with_opening}
+use Rattle.txn_journal.specs.References.{ReferenceShape, reference_text, reference_shape, AreReferences}
+use Rattle.txn_journal.specs.Assumptions.{assumption_text, has_channel, AreAssumptions}
+use Rattle.txn_journal.specs.declared.references.Reference.{Reference}
+use Rattle.txn_journal.specs.declared.assumptions.Assumption.{Assumption}
+use Rattle.txn_journal.specs.BundleStates.{BundleValue, with_opening}
 use Rattle.txn_journal.specs.Spelling.{Line, version_text, image_text, line_text, journal_lines, IsWritten, IsStamp}
 use Rattle.row_images.specs.Images.{AreValues}
 use Rattle.txn_journal.specs.Stamps.{right_stamps, all_stamps}
@@ -29,6 +33,8 @@ use Rattle.txn_journal.specs.declared.bundle.BundleChannel.{BundleChannel}
 use Rattle.txn_journal.specs.declared.fault.Cause.{Cause}
 use Rattle.txn_journal.specs.declared.lines.Version.{Version}
 use Rattle.txn_journal.specs.declared.lines.Version.TheVariants.{One, Two}
+use Rattle.txn_journal.specs.declared.lines.Due.{Due}
+use Rattle.txn_journal.specs.declared.lines.Due.TheVariants.{Any, Only}
 
 -- ---- lines
 
@@ -38,8 +44,10 @@ pub data OwnLine : Type 0 where
   Names : ℕ → OwnLine
   Starts : Gtids → OwnLine
   Has : Shape → OwnLine
+  Refers : ReferenceShape → OwnLine
   Puts : TableRow → OwnLine
   Opens : BundleChannel → OwnLine
+  Assumes : Assumption → OwnLine
   Done : OwnLine
 
 pub data BundleLine : Type 0 where
@@ -56,8 +64,10 @@ own_text (Heads version) = codes "bundle" ++ 32 ∷ version_text version
 own_text (Names replica) = codes "replica" ++ 32 ∷ source_text replica
 own_text (Starts opened) = codes "opening" ++ 32 ∷ set_text opened
 own_text (Has shape) = codes "table" ++ 32 ∷ shape_text shape
+own_text (Refers shape) = codes "fk" ++ 32 ∷ reference_text shape
 own_text (Puts r) = image_text (codes "row") r.table r.row
 own_text (Opens c) = codes "channel" ++ 32 ∷ (c.name ++ preserve_text c.preserve)
+own_text (Assumes a) = codes "assume" ++ 32 ∷ assumption_text a
 own_text Done = codes "done"
 
 abbrev pub bundle_line_text : BundleLine → List ℕ
@@ -76,8 +86,14 @@ bundle_text ls = flat_map ended_bundle_line ls
 abbrev pub table_lines : List Table → List BundleLine
 table_lines tables = map (λ t. Own (Has (shape_for t))) tables
 
+abbrev pub reference_lines : List Reference → List BundleLine
+reference_lines references = map (λ r. Own (Refers (reference_shape r))) references
+
 abbrev pub row_lines : List TableRow → List BundleLine
 row_lines rows = map (λ r. Own (Puts r)) rows
+
+abbrev pub assumption_lines : List Assumption → List BundleLine
+assumption_lines assumptions = map (λ a. Own (Assumes a)) assumptions
 
 -- a channel, and the journal that it brings
 abbrev pub channel_lines : Version → BundleChannel → List ℕ → JournalValue → List BundleLine
@@ -98,14 +114,14 @@ tables_lines version replica opened tables = (Own (Heads version) ∷ Own (Names
 
 -- the lines before the first channel, with the rows in this order
 abbrev pub start_lines : Version → List TableRow → BundleValue → List BundleLine
-start_lines version rows b = tables_lines version b.replica b.opened b.start.schema ++ row_lines rows
+start_lines version rows b = tables_lines version b.replica b.opened b.start.schema ++ (reference_lines b.references ++ row_lines rows)
 
--- the lines of a bundle but the last
+-- the lines of a bundle before its assumptions
 abbrev pub bundle_front : Version → List TableRow → List (List ℕ) → BundleValue → List BundleLine
 bundle_front version rows stamps b = start_lines version rows b ++ channels_lines version b.channels stamps b.journals
 
 abbrev pub bundle_lines : Version → List TableRow → List (List ℕ) → BundleValue → List BundleLine
-bundle_lines version rows stamps b = bundle_front version rows stamps b ++ Own Done ∷ []
+bundle_lines version rows stamps b = bundle_front version rows stamps b ++ (assumption_lines b.assumptions ++ Own Done ∷ [])
 
 -- the text of a bundle whose rows come in this order
 abbrev pub bundle_spelling : Version → List TableRow → BundleValue → List ℕ
@@ -164,10 +180,12 @@ pub record IsWrittenBundle (version : Version) (rows : List TableRow) (b : Bundl
   pub replica : IsSource b.replica
   pub opened : IsOpeningSet version b.opened
   pub tables : AreAdded (limits_of version) [] b.start.schema
+  pub references : AreReferences (limits_of version) b.start.schema b.references
   pub opening : AreOpening (limits_of version) b.start.schema rows b.start.rows
   pub named : AreNamed (limits_of version) [] b.channels
   pub few : length b.channels ≤ 256
   pub brought : AreBrought (limits_of version) b.start.schema b.channels b.journals
+  pub assumed : AreAssumptions (limits_of version) b.start.schema b.channels b.assumptions
 
 -- this version can write it, with its rows in listed order
 abbrev pub IsWritableBy : Version → BundleValue → Type 0
@@ -184,16 +202,16 @@ pub record WritesBundleAs (version : Version) (bytes : List ℕ) (b : BundleValu
   pub text : bytes ≡ bundle_spelling version rows b
 
 -- by a version that is due
-abbrev pub WritesBundleBy : Option Version → List ℕ → BundleValue → Type 0
+abbrev pub WritesBundleBy : Due → List ℕ → BundleValue → Type 0
 WritesBundleBy due bytes b = (version : Version) × (takes due version ≡ true) × WritesBundleAs version bytes b
 
 -- by this version, if it can write the bundle
 abbrev pub WritesWhereWritable : Version → List ℕ → BundleValue → Type 0
-WritesWhereWritable version bytes b = IsWritableBy version b → WritesBundleBy (Some version) bytes b
+WritesWhereWritable version bytes b = IsWritableBy version b → WritesBundleBy (Only version) bytes b
 
 -- by any version
 abbrev pub WritesBundle : List ℕ → BundleValue → Type 0
-WritesBundle bytes b = WritesBundleBy None bytes b
+WritesBundle bytes b = WritesBundleBy Any bytes b
 
 -- its text by this version, with its rows in listed order
 abbrev pub spelling_by : Version → BundleValue → List ℕ
@@ -226,9 +244,9 @@ pub record AlmostWritesAs (version : Version) (bytes : List ℕ) (b : BundleValu
   pub stamped : AreAlmostStamped version b.start.schema stamps b.journals
   pub text : bytes ≡ bundle_text (bundle_lines version rows stamps b)
 
-abbrev pub AlmostWritesBundle : Option Version → List ℕ → BundleValue → Type 0
+abbrev pub AlmostWritesBundle : Due → List ℕ → BundleValue → Type 0
 AlmostWritesBundle due bytes b = (version : Version) × (takes due version ≡ true) × AlmostWritesAs version bytes b
 
 -- A bundle of version 1 has a text by version 2.
 abbrev pub UpgradeHasText : Type 0
-UpgradeHasText = (bytes : List ℕ) (b : BundleValue) → WritesBundleBy (Some One) bytes b → WritesBundleBy (Some Two) (spelling_by Two b) b
+UpgradeHasText = (bytes : List ℕ) (b : BundleValue) → WritesBundleBy (Only One) bytes b → WritesBundleBy (Only Two) (spelling_by Two b) b

@@ -20,6 +20,7 @@ use Rattle.txn_journal.specs.declared.fault.Cause.{Cause}
 use Rattle.txn_journal.specs.declared.lines.Keyword.{Keyword}
 use Rattle.txn_journal.specs.declared.lines.Keyword.TheVariants as keywords
 use Rattle.txn_journal.specs.declared.lines.Version.{Version}
+use Rattle.txn_journal.specs.declared.lines.Due.{Due}
 
 abbrev pub keyword_text : Keyword → List ℕ
 keyword_text keywords.Journal = codes "journal"
@@ -68,13 +69,13 @@ abbrev pub HasNumbers : Version → Option Numbers → Type 0
 HasNumbers version numbers = is_some numbers ≡ is_numbered version
 
 -- it is of a version that is due, or of the version of the lines before
-abbrev pub IsOfVersion : Option Version → Version → Line → Type 0
+abbrev pub IsOfVersion : Due → Version → Line → Type 0
 IsOfVersion due version (Header v) = takes due v ≡ true
 IsOfVersion due version (Begin g numbers) = HasNumbers version numbers
 IsOfVersion due version _ = Unit {0}
 
 -- its words are those of such a line, and may be there
-pub record FitsAt (due : Option Version) (version : Version) (l : Line) : Type 0 where
+pub record FitsAt (due : Due) (version : Version) (l : Line) : Type 0 where
   pub words : FitsLine (limits_of version) l
   pub images : HasImages l
   pub of_version : IsOfVersion due version l

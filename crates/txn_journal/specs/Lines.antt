@@ -15,6 +15,8 @@ use Rattle.txn_journal.specs.declared.fault.Cause.{Cause}
 use Rattle.txn_journal.specs.declared.fault.Cause.TheVariants as causes
 use Rattle.txn_journal.specs.declared.lines.Keyword.{Keyword}
 use Rattle.txn_journal.specs.declared.lines.Keyword.TheVariants as keywords
+use Rattle.txn_journal.specs.declared.lines.Due.{Due}
+use Rattle.txn_journal.specs.declared.lines.Due.TheVariants.{Any, Only, BeforeThree}
 use Rattle.txn_journal.specs.declared.lines.Version.{Version}
 use Rattle.txn_journal.specs.declared.lines.Version.TheVariants.{One, Two, Three}
 use Rattle.txn_journal.specs.Versions.{is_numbered}
@@ -52,12 +54,14 @@ due is_due (Some word) = if is_due word then Ok word else Err causes.Keyword
 -- ---- versions
 
 -- a version is allowed if it is due, or if any is
-abbrev pub takes : Option Version → Version → Bool
-takes None version = true
-takes (Some One) One = true
-takes (Some Two) Two = true
-takes (Some Three) Three = true
-takes (Some _) _ = false
+abbrev pub takes : Due → Version → Bool
+takes Any version = true
+takes (Only One) One = true
+takes (Only Two) Two = true
+takes (Only Three) Three = true
+takes (Only _) _ = false
+takes BeforeThree Three = false
+takes BeforeThree _ = true
 
 abbrev pub version_named : List ℕ → Option Version
 version_named word =
@@ -66,11 +70,11 @@ version_named word =
     else if bytes_eq word (codes "3") then Some Three
     else None
 
-abbrev pub known_version : Option Version → Option Version → Result Version Cause
+abbrev pub known_version : Due → Option Version → Result Version Cause
 known_version due None = Err causes.Version
 known_version due (Some version) = if takes due version then Ok version else Err causes.Version
 
-abbrev pub version_in : Option Version → Option (List ℕ) → Result Version Cause
+abbrev pub version_in : Due → Option (List ℕ) → Result Version Cause
 version_in due None = Err causes.Body
 version_in due (Some word) = if is_count word then known_version due (version_named word) else Err causes.Body
 

@@ -29,13 +29,14 @@ use Rattle.txn_journal.specs.declared.lines.Keyword.{Keyword}
 use Rattle.txn_journal.specs.declared.lines.Keyword.TheVariants as keywords
 use Rattle.txn_journal.specs.declared.lines.Version.{Version}
 use Rattle.txn_journal.specs.declared.lines.Version.TheVariants.{One}
+use Rattle.txn_journal.specs.declared.lines.Due.{Due}
 
 -- What the lines so far have made. `due` is the version that is due, if not each known one is; `seen` has the GTIDs of the previous set and
 -- of all `count` entries, including those that were taken. `stamps` has the last_committed of each entry of the journal, `stamp` that of
 -- the entry that is open.
 pub record Standing : Type 0 where
   pub place : LinePlace
-  pub due : Option Version
+  pub due : Due
   pub version : Version
   pub journal : JournalValue
   pub stamps : List ℕ
@@ -46,7 +47,7 @@ pub record Standing : Type 0 where
   pub changes : List Change
 
 -- before the first line
-abbrev pub empty : Option Version → Standing
+abbrev pub empty : Due → Standing
 empty due = record {
   place = places.Header;
   due = due;

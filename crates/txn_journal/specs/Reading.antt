@@ -14,9 +14,11 @@ use Rattle.txn_journal.specs.Causes.{HasCause}
 use Rattle.txn_journal.specs.declared.lines.Version.{Version}
 use Rattle.txn_journal.specs.declared.lines.LinePlace.{LinePlace}
 use Rattle.txn_journal.specs.declared.lines.LinePlace.TheVariants as places
+use Rattle.txn_journal.specs.declared.lines.Due.{Due}
+use Rattle.txn_journal.specs.declared.lines.Due.TheVariants.{Any}
 
 -- journals that stand alone
-abbrev pub journals_as : {V : Type 0} → Option Version → (Standing → V) → (List ℕ → V → Type 0) → Format
+abbrev pub journals_as : {V : Type 0} → Due → (Standing → V) → (List ℕ → V → Type 0) → Format
 journals_as {V} due value Writes = record {
   Line = Line;
   State = Standing;
@@ -37,7 +39,7 @@ journals_as {V} due value Writes = record {
 
 -- whatever their version and numbers
 abbrev pub journals : Format
-journals = journals_as None (λ s. s.journal) Writes
+journals = journals_as Any (λ s. s.journal) Writes
 
 -- a journal as it is written
 pub record WrittenJournal : Type 0 where
@@ -49,18 +51,18 @@ abbrev pub as_written : Standing → WrittenJournal
 as_written s = record { version = s.version; stamps = s.stamps; journal = s.journal }
 
 -- of a version that is due
-abbrev pub IsWrittenAs : Option Version → List ℕ → WrittenJournal → Type 0
+abbrev pub IsWrittenAs : Due → List ℕ → WrittenJournal → Type 0
 IsWrittenAs due bytes w = (takes due w.version ≡ true) × WritesAs w.version w.stamps bytes w.journal
 
-abbrev pub written_journals : Option Version → Format
+abbrev pub written_journals : Due → Format
 written_journals due = journals_as due as_written (IsWrittenAs due)
 
 -- before the first byte, if this version is due, or any
-abbrev pub alone_start : Option Version → Progress Standing
+abbrev pub alone_start : Due → Progress Standing
 alone_start due = Reading (empty due) 0 []
 
 abbrev pub before_first : Progress Standing
-before_first = alone_start None
+before_first = alone_start Any
 
 -- a journal that stands alone, byte by byte
 abbrev pub feed_journal_bytes : Progress Standing → List ℕ → Progress Standing

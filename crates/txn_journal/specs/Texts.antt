@@ -1,5 +1,5 @@
 -- The text of journals and bundles, one part after another.
-use Rattle.std.specs.Prelude.{ℕ, zero, suc, ◌+◌, List, [], ◌∷◌, ◌++◌, None, codes, decimal}
+use Rattle.std.specs.Prelude.{ℕ, zero, suc, ◌+◌, Bool, true, false, List, [], ◌∷◌, ◌++◌, None, codes, decimal}
 use Rattle.gtid_set.specs.Sets.{Gtids}
 use Rattle.rows.specs.declared.change.Change.{Change}
 use Rattle.rows.specs.declared.change.TableRow.{TableRow}
@@ -10,7 +10,10 @@ use Rattle.txn_journal.specs.Splits.{columns_text}
 use Rattle.txn_journal.specs.Shapes.{shape_for}
 use Rattle.txn_journal.specs.Stamps.{right_stamps}
 use Rattle.txn_journal.specs.Spelling.{Makes, ended_line, lines_text, entry_lines, numbers_of, opening_lines}
-use Rattle.txn_journal.specs.BundleText.{Heads, Names, Has, Puts, Own, ended_bundle_line, bundle_text, channel_lines, opening_set_lines}
+use Rattle.txn_journal.specs.BundleText.{Heads, Names, Has, Refers, Puts, Assumes, Own, ended_bundle_line, bundle_text, channel_lines, opening_set_lines}
+use Rattle.txn_journal.specs.References.{reference_shape}
+use Rattle.txn_journal.specs.declared.references.Reference.{Reference}
+use Rattle.txn_journal.specs.declared.assumptions.Assumption.{Assumption}
 use Rattle.txn_journal.specs.declared.bundle.BundleChannel.{BundleChannel}
 use Rattle.txn_journal.specs.declared.lines.Version.{Version}
 
@@ -59,13 +62,26 @@ abbrev pub hidden_part : ℕ → List ℕ
 hidden_part zero = []
 hidden_part (suc n) = codes " hidden" ++ 32 ∷ decimal (suc n)
 
+-- whether the server itself changes children
+abbrev pub cascade_part : Bool → List ℕ
+cascade_part true = codes " cascade"
+cascade_part false = []
+
 abbrev pub tables_text : List Table → List ℕ
 tables_text [] = []
 tables_text (t ∷ ts) = ended_bundle_line (Own (Has (shape_for t))) ++ tables_text ts
 
+abbrev pub references_text : List Reference → List ℕ
+references_text [] = []
+references_text (r ∷ rs) = ended_bundle_line (Own (Refers (reference_shape r))) ++ references_text rs
+
 abbrev pub rows_text : List TableRow → List ℕ
 rows_text [] = []
 rows_text (r ∷ rs) = ended_bundle_line (Own (Puts r)) ++ rows_text rs
+
+abbrev pub assumptions_text : List Assumption → List ℕ
+assumptions_text [] = []
+assumptions_text (a ∷ said) = ended_bundle_line (Own (Assumes a)) ++ assumptions_text said
 
 -- a channel, and its journal
 unfoldable pub channel_and_journal_text : Version → List Table → BundleChannel → JournalValue → List ℕ
@@ -80,5 +96,5 @@ unfoldable pub head_text : Version → ℕ → Gtids → List ℕ
 head_text version replica opened = bundle_text (Own (Heads version) ∷ Own (Names replica) ∷ opening_set_lines version opened)
 
 -- the lines before the first channel
-unfoldable pub start_text : Version → ℕ → Gtids → List Table → List TableRow → List ℕ
-start_text version replica opened tables rows = head_text version replica opened ++ (tables_text tables ++ rows_text rows)
+unfoldable pub start_text : Version → ℕ → Gtids → List Table → List Reference → List TableRow → List ℕ
+start_text version replica opened tables references rows = head_text version replica opened ++ (tables_text tables ++ (references_text references ++ rows_text rows))

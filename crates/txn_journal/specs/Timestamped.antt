@@ -13,6 +13,7 @@ use Rattle.txn_journal.specs.declared.fault.Cause.TheVariants as causes
 use Rattle.txn_journal.specs.declared.fault.JournalFault.{JournalFault}
 use Rattle.txn_journal.specs.declared.fault.JournalFault.TheVariants as faults
 use Rattle.txn_journal.specs.declared.lines.Version.TheVariants.{Two}
+use Rattle.txn_journal.specs.declared.lines.Due.TheVariants.{Only}
 
 -- a journal with the last_committed of each entry, as it is written
 pub record TimestampedValue : Type 0 where
@@ -28,11 +29,11 @@ WritesTimestamped bytes v = WritesAs Two v.last_committed bytes v.journal
 
 -- version 2 alone is due
 abbrev pub timestamped_journals : Format
-timestamped_journals = journals_as (Some Two) timestamped_of WritesTimestamped
+timestamped_journals = journals_as (Only Two) timestamped_of WritesTimestamped
 
 -- before the first byte
 abbrev pub timestamped_start : Progress Standing
-timestamped_start = alone_start (Some Two)
+timestamped_start = alone_start (Only Two)
 
 -- the end of the text
 abbrev pub closing_timestamped : Progress Standing → Result TimestampedValue JournalFault

@@ -22,6 +22,16 @@ abbrev pub is_numbered : Version → Bool
 is_numbered One = false
 is_numbered _ = true
 
+-- lines of references and assumptions are version 3's alone
+abbrev pub has_references : Version → Bool
+has_references Three = true
+has_references _ = false
+
+-- texts with narrow limits have none of them
+abbrev pub IsWide : Limits → Type 0
+IsWide Narrow = ⊥
+IsWide Wide = Unit {0}
+
 -- the names of texts with these limits
 abbrev pub is_named : Limits → List ℕ → Bool
 is_named Narrow = is_short_name

@@ -2,7 +2,9 @@
 ghost use Rattle.std.specs.Prelude.{◌≡◌};
 ghost use Rattle.txn_journal.specs.BundleText.{IsBundle};
 
+use crate::assumptions::Assumption;
 use crate::open_bundle::OpenBundle;
+use crate::references::Reference;
 use gtid_set::GtidSet;
 use gtid_text::SourceId;
 use journal::Journal;
@@ -18,8 +20,8 @@ pub struct BundleChannel {
     pub preserve: bool,
 }
 
-/// A replica, the set of GTIDs with which it begins, its opening rows, and its channels, each with the journal that it brings.
-/// Its type keeps that it has a text by version 2 of the format (`keeps_rules`).
+/// A replica, the set of GTIDs with which it begins, its opening rows and references, its channels, each with the journal that it brings, and
+/// what is assumed. Its type keeps that it has a text by version 2 or version 3 of the format (`keeps_rules`).
 pub struct Bundle {
     parts: OpenBundle,
 }
@@ -85,6 +87,13 @@ impl Bundle {
         self.parts.rows()
     }
 
+    /// The references between tables, in order. Versions 1 and 2 of the format have none.
+    pub fn references(&self) -> &[Reference]
+        ensures { result.now ≡ self.now.references }
+    {
+        self.parts.references()
+    }
+
     /// The channels, in order.
     pub fn channels(&self) -> &[BundleChannel]
         ensures { result.now ≡ self.now.channels }
@@ -97,6 +106,13 @@ impl Bundle {
         ensures { result.now ≡ self.now.journals }
     {
         self.parts.journals()
+    }
+
+    /// What is assumed, in the order of the lines. Versions 1 and 2 of the format assume nothing.
+    pub fn assumptions(&self) -> &[Assumption]
+        ensures { result.now ≡ self.now.assumptions }
+    {
+        self.parts.assumptions()
     }
 
     /// The type keeps the rules of the format: tables, rows and channels fit together, the tables take what each journal has, and all of

@@ -2,17 +2,22 @@
 ghost use Rattle.std.specs.Prelude.{◌≡◌, None, option_map};
 ghost use Rattle.txn_journal.specs.Stream.{Finds};
 ghost use Rattle.txn_journal.specs.Writers.{AreWriters};
-ghost use Rattle.txn_journal.specs.BundleStates.{word_of, replica_in, preserve_in, channel_in, has_channel};
+ghost use Rattle.txn_journal.specs.BundleStates.{word_of, replica_in, preserve_in, channel_in, is_word_of};
+ghost use Rattle.txn_journal.specs.Referred.{reference_words_shape};
 ghost use Rattle.rows.specs.declared.limits.Limits.TheVariants.{Narrow};
 
+use crate::assumptions::{
+    Assumption, MAX_ASSUMPTIONS, assumption_in, has_channel, may_assume, may_follow,
+};
 use crate::bundle::BundleChannel;
 use crate::draft::{Draft, version_in};
 use crate::fault::{Cause, LineFault};
 use crate::images::{image, table_at};
-use crate::lines::Version;
+use crate::lines::{Due, Version};
 use crate::names::Names;
 use crate::open_bundle::OpenBundle;
 use crate::parsed_lines::ParsedEntry;
+use crate::references::{MAX_REFERENCES, ReferenceWords, reference_words};
 use crate::tables::add_table;
 use gtid_set::{GtidSet, SetFault};
 use gtid_text::SourceId;
@@ -34,9 +39,11 @@ pub enum Part {
     Replica,
     Opening,
     Tables,
+    References,
     Rows,
     Channels,
     Journal,
+    Assumptions,
     Ended,
 }
 
@@ -47,8 +54,10 @@ pub enum Word {
     Replica,
     Opening,
     Table,
+    Reference,
     Row,
     Channel,
+    Assume,
     Done,
 }
 
@@ -63,10 +72,14 @@ fn word_at(word: &[u8]) -> Option<Word>
         Some(Word::Opening)
     } else if word == b"table".as_slice() {
         Some(Word::Table)
+    } else if word == b"fk".as_slice() {
+        Some(Word::Reference)
     } else if word == b"row".as_slice() {
         Some(Word::Row)
     } else if word == b"channel".as_slice() {
         Some(Word::Channel)
+    } else if word == b"assume".as_slice() {
+        Some(Word::Assume)
     } else if word == b"done".as_slice() {
         Some(Word::Done)
     } else {
@@ -75,22 +88,52 @@ fn word_at(word: &[u8]) -> Option<Word>
 }
 
 impl Part {
-    ghost use Rattle.txn_journal.specs.BundleStates.{is_due_in};
+    ghost use Rattle.txn_journal.specs.BundleStates.{is_in_part, is_due_in};
 
-    /// Whether a line with this first word is allowed here.
-    fn takes(self, word: Word) -> bool
-        ensures { result ≡ is_due_in self word }
+    /// Whether it has lines with this first word.
+    fn has(self, word: Word) -> bool
+        ensures { result ≡ is_in_part self word }
     {
         match self {
             Part::Header => matches!(word, Word::Bundle),
             Part::Replica => matches!(word, Word::Replica),
             Part::Opening => matches!(word, Word::Opening),
-            Part::Tables => matches!(word, Word::Table | Word::Row | Word::Channel | Word::Done),
-            Part::Rows => matches!(word, Word::Row | Word::Channel | Word::Done),
-            Part::Channels => matches!(word, Word::Channel | Word::Done),
+            Part::Tables => matches!(
+                word,
+                Word::Table
+                    | Word::Reference
+                    | Word::Row
+                    | Word::Channel
+                    | Word::Assume
+                    | Word::Done
+            ),
+            Part::References => matches!(
+                word,
+                Word::Reference | Word::Row | Word::Channel | Word::Assume | Word::Done
+            ),
+            Part::Rows => matches!(word, Word::Row | Word::Channel | Word::Assume | Word::Done),
+            Part::Channels => matches!(word, Word::Channel | Word::Assume | Word::Done),
             Part::Journal => false,
+            Part::Assumptions => matches!(word, Word::Assume | Word::Done),
             Part::Ended => false,
         }
+    }
+
+    /// Whether a line with this first word is allowed here, in a text of this version.
+    fn takes(self, version: Version, word: Word) -> bool
+        ensures { result ≡ is_due_in version self word }
+    {
+        self.has(word) && is_word_of(version, word)
+    }
+}
+
+/// Whether a version has lines with this first word.
+fn is_word_of(version: Version, word: Word) -> bool
+    ensures { result ≡ is_word_of version word }
+{
+    match word {
+        Word::Reference | Word::Assume => version == Version::Three,
+        _ => true,
     }
 }
 
@@ -99,7 +142,7 @@ impl Part {
 pub struct BundleDraft {
     part: Part,
     /// The version that is due, or none if any known one is.
-    due: Option<Version>,
+    due: Due,
     version: Version,
     names: Names,
     /// The tables, until the first line after them.
@@ -161,12 +204,6 @@ fn preserve_in(rest: Option<&[u8]>) -> Result<bool, LineFault>
     }
 }
 
-fn has_channel(channels: &[BundleChannel], name: &Name) -> bool
-    ensures { result ≡ has_channel channels.now name.now }
-{
-    channels.iter().any(|channel| channel.name == *name)
-}
-
 /// Drops the last writers, if there are any.
 fn forget(writers: &mut Option<LastWriters>)
     ensures { writers.new ≡ None }
@@ -188,16 +225,17 @@ impl BundleDraft {
     ghost use Rattle.txn_journal.specs.declared.bundle_draft.Word.TheVariants as words;
     ghost use Rattle.txn_journal.specs.declared.bundle_draft.Part.TheVariants as parts;
     ghost use Rattle.txn_journal.specs.declared.lines.Version.TheVariants.{One};
+    ghost use Rattle.txn_journal.specs.declared.lines.Due.TheVariants.{Any};
     ghost use Rattle.txn_journal.specs.Versions.{is_numbered};
     ghost use Rattle.txn_journal.specs.Stream.{TakesLine, GivesFull, IsRefusedWhereFull, TakesPlain, IsLeftWhereFull};
-    ghost use Rattle.txn_journal.specs.BundleStates.{IsFullBundle, CountsFirst, no_bundle, is_done, version_line, replica_line, opening_line, add_table_line, row_line, put_within, put_row, after_tables, channel_line, join_channel, done_line, own_step, judge_own, after_inner, end_entry, close_channel, judge_inner, judge_bundle};
+    ghost use Rattle.txn_journal.specs.BundleStates.{IsFullBundle, CountsFirst, no_bundle, is_done, version_line, replica_line, opening_line, add_table_line, reference_line, put_reference, assume_line, put_assumption, row_line, put_within, put_row, after_tables, channel_line, join_channel, done_line, own_step, judge_own, after_inner, end_entry, close_channel, judge_inner, judge_bundle};
     ghost use Rattle.txn_journal.specs.BundleDrafts.{bundle_standing};
     ghost use Rattle.txn_journal.specs.ChangeLines.{change_in};
     ghost use Rattle.txn_journal.specs.BundleChanges.{with_change};
     ghost use Rattle.txn_journal.specs.TakenEntries.{TakesText};
 
     /// Before the first line.
-    pub fn start(alloc: Global, due: Option<Version>) -> BundleDraft
+    pub fn start(alloc: Global, due: Due) -> BundleDraft
         ensures { bundle_standing result ≡ no_bundle due }
     {
         BundleDraft {
@@ -213,7 +251,7 @@ impl BundleDraft {
                 Rows::open(alloc, Schema::empty(alloc)),
             ),
             channel: None,
-            draft: Draft::start(alloc, None),
+            draft: Draft::start(alloc, Due::Any),
             writers: None,
         }
     }
@@ -222,9 +260,9 @@ impl BundleDraft {
     #[cold]
     #[inline(never)]
     pub fn start_again(&mut self, alloc: Global)
-        ensures { bundle_standing self.new ≡ no_bundle None }
+        ensures { bundle_standing self.new ≡ no_bundle Any }
     {
-        *self = BundleDraft::start(alloc, None);
+        *self = BundleDraft::start(alloc, Due::Any);
     }
 
     /// Whether the last line has come.
@@ -252,8 +290,10 @@ impl BundleDraft {
             Word::Replica => self.name_replica(alloc, rest),
             Word::Opening => self.begin_with(alloc, rest),
             Word::Table => self.add_table(alloc, rest),
+            Word::Reference => self.add_reference(alloc, rest),
             Word::Row => self.add_row(alloc, rest),
             Word::Channel => self.open_channel(alloc, rest),
+            Word::Assume => self.assume(alloc, rest),
             Word::Done => self.end(alloc, rest),
         }
     }
@@ -322,7 +362,7 @@ impl BundleDraft {
         add_table(alloc, limits, &mut self.names, &mut self.schema, text)
     }
 
-    /// Opens the rows, if the tables end here.
+    /// Opens the rows, if the tables or the references end here.
     fn leave_tables(&mut self, alloc: Global)
         ensures { bundle_standing self.new ≡ after_tables (bundle_standing self.old) }
     {
@@ -331,7 +371,32 @@ impl BundleDraft {
             self.writers = None;
             self.bundle.open_rows(alloc, schema);
             self.part = Part::Rows;
+        } else if self.part == Part::References {
+            self.part = Part::Rows;
         }
+    }
+
+    #[tactic(auto, unfolding(crate::specs::BundleStates::reference_line))]
+    fn add_reference(&mut self, alloc: Global, rest: Option<&[u8]>) -> Result<(), LineFault>
+        ensures { TakesLine IsFullBundle result (reference_line (bundle_standing self.old) (option_map (λ r. r.now) rest.entry)) (bundle_standing self.new) }
+    {
+        let words = reference_words(alloc, self.version.limits(), &mut self.names, rest)?;
+        self.leave_tables(alloc);
+        self.refer(alloc, &words)
+    }
+
+    #[tactic(auto, unfolding(crate::specs::BundleStates::put_reference))]
+    fn refer(&mut self, alloc: Global, words: &ReferenceWords<'_>) -> Result<(), LineFault>
+        ensures { TakesLine IsFullBundle result (put_reference (bundle_standing self.old) (reference_words_shape words.now)) (bundle_standing self.new) }
+    {
+        if self.bundle.references().len() >= MAX_REFERENCES {
+            return Err(LineFault::Wrong(Cause::Limit));
+        }
+        let reference = words.reference(alloc, self.bundle.schema())?;
+        self.writers = None;
+        self.bundle.refer(reference)?;
+        self.part = Part::References;
+        Ok(())
     }
 
     #[tactic(auto, unfolding(crate::specs::BundleStates::row_line))]
@@ -383,8 +448,36 @@ impl BundleDraft {
         self.leave_tables(alloc);
         self.channel = Some(channel);
         self.writers = None;
-        self.draft = Draft::start(alloc, Some(self.version));
+        self.draft = Draft::start(alloc, Due::Only(self.version));
         self.part = Part::Journal;
+        Ok(())
+    }
+
+    #[tactic(auto, unfolding(crate::specs::BundleStates::assume_line))]
+    fn assume(&mut self, alloc: Global, rest: Option<&[u8]>) -> Result<(), LineFault>
+        ensures { TakesLine IsFullBundle result (assume_line (bundle_standing self.old) (option_map (λ r. r.now) rest.entry)) (bundle_standing self.new) }
+    {
+        let assumption = assumption_in(alloc, self.version.limits(), &mut self.names, rest)?;
+        self.leave_tables(alloc);
+        if !may_follow(self.bundle.assumptions(), &assumption) {
+            return Err(LineFault::Wrong(Cause::Body));
+        }
+        self.add_assumption(assumption)
+    }
+
+    #[tactic(auto, unfolding(crate::specs::BundleStates::put_assumption))]
+    fn add_assumption(&mut self, assumption: Assumption) -> Result<(), LineFault>
+        ensures { TakesLine IsFullBundle result (put_assumption (bundle_standing self.old) assumption) (bundle_standing self.new) }
+    {
+        if self.bundle.assumptions().len() >= MAX_ASSUMPTIONS {
+            return Err(LineFault::Wrong(Cause::Limit));
+        }
+        if !may_assume(self.bundle.schema(), self.bundle.channels(), &assumption) {
+            return Err(LineFault::Wrong(Cause::Schema));
+        }
+        self.writers = None;
+        self.bundle.assume(assumption)?;
+        self.part = Part::Assumptions;
         Ok(())
     }
 
@@ -552,7 +645,10 @@ impl BundleDraft {
         ensures { TakesLine IsFullBundle result (Ok (close_channel (bundle_standing self.old) (bundle_standing self.old).draft)) (bundle_standing self.new) }
     {
         self.writers = None;
-        let draft = mem::replace(&mut self.draft, Draft::start(alloc, Some(self.version)));
+        let draft = mem::replace(
+            &mut self.draft,
+            Draft::start(alloc, Due::Only(self.version)),
+        );
         let channel = self.channel.take();
         self.part = Part::Channels;
         if let Some(channel) = channel {
@@ -569,7 +665,7 @@ impl BundleDraft {
     {
         let (word, rest) = cut(line);
         match word_at(word) {
-            Some(word) if self.part.takes(word) => self.take(alloc, word, rest),
+            Some(word) if self.part.takes(self.version, word) => self.take(alloc, word, rest),
             _ => Err(LineFault::Wrong(Cause::Keyword)),
         }
     }

@@ -4,14 +4,14 @@ ghost use Rattle.txn_journal.specs.BundleStates.{BundleStanding, BundleValue};
 ghost use Rattle.txn_journal.specs.BundleText.{WritesBundleBy, WritesBundle};
 ghost use Rattle.txn_journal.specs.Stream.{IsWhole, IsWholeOr, IsRead};
 ghost use Rattle.txn_journal.specs.BundleRefused.{RefusesBundleBy, RefusesBundle};
-ghost use Rattle.txn_journal.specs.declared.lines.Version.TheVariants.{One};
+ghost use Rattle.txn_journal.specs.declared.lines.Due.TheVariants.{Any};
 ghost use Rattle.txn_journal.specs.BundleReading.{bundle_start, IsFaultOfBundle, feed_bundle_bytes, closing_bundle, AnyCutOfBundles};
 
 use crate::bundle::Bundle;
 use crate::bundle_draft::BundleDraft;
 use crate::fault::{JournalFault, LineFault};
 use crate::feed::{Feed, TakeChange, TakeLine};
-use crate::lines::Version;
+use crate::lines::Due;
 use crate::parsed_lines::{ParsedEntry, ParsedLines};
 use rows::Change;
 use std::alloc::{AllocError, Global};
@@ -46,7 +46,7 @@ impl Lines {
     ghost use Rattle.txn_journal.specs.BundleStates.{no_bundle, is_done};
 
     /// Before the first line.
-    fn start(alloc: Global, due: Option<Version>) -> Lines
+    fn start(alloc: Global, due: Due) -> Lines
         ensures { result ≡ no_bundle due }
     {
         Lines {
@@ -138,13 +138,13 @@ impl BundleReader {
 
     /// Before the first byte of a bundle of any version.
     pub fn start(alloc: Global) -> BundleReader
-        ensures { bundle_reading result ≡ bundle_start None }
+        ensures { bundle_reading result ≡ bundle_start Any }
     {
-        BundleReader::start_as(alloc, None)
+        BundleReader::start_as(alloc, Due::Any)
     }
 
     /// Before the first byte of a bundle of the version that is due.
-    fn start_as(alloc: Global, due: Option<Version>) -> BundleReader
+    fn start_as(alloc: Global, due: Due) -> BundleReader
         ensures { bundle_reading result ≡ bundle_start due }
     {
         BundleReader {
@@ -154,7 +154,7 @@ impl BundleReader {
 
     /// Takes the next piece. After an error every later call returns that error.
     pub fn feed(&mut self, alloc: Global, piece: &[u8]) -> Result<(), JournalFault>
-        ensures next { FeedsBy (bundles None) (bundle_reading self.old) piece.now (bundle_reading self.new) }
+        ensures next { FeedsBy (bundles Any) (bundle_reading self.old) piece.now (bundle_reading self.new) }
         ensures stays { StaysStopped (bundle_reading self.old) (bundle_reading self.new) }
         ensures answer { result ≡ answer (bundle_reading self.new) }
         // In version 1 a line that ends an entry and is the first of its piece is refused for too many sources, whatever memory there is.
@@ -165,7 +165,7 @@ impl BundleReader {
 
     /// Takes the next piece, whose lines were parsed. After an error every later call returns that error.
     pub fn feed_parsed(&mut self, alloc: Global, piece: ParsedLines<'_>) -> Result<(), JournalFault>
-        ensures next { FeedsBy (bundles None) (bundle_reading self.old) piece.entry (bundle_reading self.new) }
+        ensures next { FeedsBy (bundles Any) (bundle_reading self.old) piece.entry (bundle_reading self.new) }
         ensures stays { StaysStopped (bundle_reading self.old) (bundle_reading self.new) }
         ensures answer { result ≡ answer (bundle_reading self.new) }
     {
@@ -197,7 +197,7 @@ impl BundleReader {
     }
 }
 
-fn read_bundle(alloc: Global, due: Option<Version>, bytes: &[u8]) -> Result<Bundle, JournalFault>
+fn read_bundle(alloc: Global, due: Due, bytes: &[u8]) -> Result<Bundle, JournalFault>
     ensures { IsWholeOr (IsFaultOfBundle (bundle_start due) bytes.now) result (closing_bundle (feed_bundle_bytes (bundle_start due) bytes.now)) }
 {
     let mut reader = BundleReader::start_as(alloc, due);
@@ -216,23 +216,23 @@ pub fn decode_bundle(alloc: Global, bytes: &[u8]) -> Result<Bundle, JournalFault
     // A refusal names the first faulty line, and what is wrong with it.
     ensures refused { IfErr result (λ fault. RefusesBundle fault bytes.now) }
     // The same, by the fold over the bytes.
-    ensures exact { IsWhole result (closing_bundle (feed_bundle_bytes (bundle_start None) bytes.now)) }
+    ensures exact { IsWhole result (closing_bundle (feed_bundle_bytes (bundle_start Any) bytes.now)) }
 {
-    read_bundle(alloc, None, bytes)
+    read_bundle(alloc, Due::Any, bytes)
 }
 
-/// The bundle that the bytes parse as, all of the bytes, by version 1 of the format. What begins as a bundle of another version is refused for it.
-pub fn decode_bundle_v1(alloc: Global, bytes: &[u8]) -> Result<Bundle, JournalFault>
+/// The bundle that the bytes parse as, all of the bytes, by a version that is due. What begins as a bundle of another is refused for it.
+pub fn decode_bundle_by(alloc: Global, due: Due, bytes: &[u8]) -> Result<Bundle, JournalFault>
     // Accepted bytes are a text of this value by the grammar.
-    ensures found { IfOk result (λ b. WritesBundleBy (Some One) bytes.now b) }
+    ensures found { IfOk result (λ b. WritesBundleBy due bytes.now b) }
     // A text of a value by the grammar is accepted as it, if memory and the sources of a set allow.
-    ensures only { (b : BundleValue) → WritesBundleBy (Some One) bytes.now b → IsRead result b }
+    ensures only { (b : BundleValue) → WritesBundleBy due bytes.now b → IsRead result b }
     // A refusal names the first faulty line, and what is wrong with it.
-    ensures refused { IfErr result (λ fault. RefusesBundleBy (Some One) fault bytes.now) }
+    ensures refused { IfErr result (λ fault. RefusesBundleBy due fault bytes.now) }
     // The same, by the fold over the bytes.
-    ensures exact { IsWhole result (closing_bundle (feed_bundle_bytes (bundle_start (Some One)) bytes.now)) }
+    ensures exact { IsWhole result (closing_bundle (feed_bundle_bytes (bundle_start due) bytes.now)) }
 {
-    read_bundle(alloc, Some(Version::One), bytes)
+    read_bundle(alloc, due, bytes)
 }
 
 /// A bundle's text is read the same, however it is cut into pieces.

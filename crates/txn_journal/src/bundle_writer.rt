@@ -3,11 +3,14 @@ ghost use Rattle.std.specs.Prelude.{◌≡◌, ◌∷◌, ◌++◌, IfOk, OnOk, 
 ghost use Rattle.std.specs.String.{string_bytes};
 ghost use Rattle.txn_journal.specs.Splits.{columns_text};
 ghost use Rattle.txn_journal.specs.Shapes.{shape_for};
-ghost use Rattle.txn_journal.specs.BundleText.{Heads, Names, Has, Puts, Opens, Own, ended_bundle_line, bundle_text, opening_set_lines, bundle_spelling, spelling_by, WritesWhereWritable};
-ghost use Rattle.txn_journal.specs.Texts.{columns_behind, uniques_text, hidden_part, tables_text, rows_text, channel_and_journal_text, channels_and_journals_text, head_text, start_text};
+ghost use Rattle.txn_journal.specs.References.{reference_shape};
+ghost use Rattle.txn_journal.specs.BundleText.{Heads, Names, Has, Refers, Puts, Opens, Assumes, Own, ended_bundle_line, bundle_text, opening_set_lines, bundle_spelling, spelling_by, WritesWhereWritable};
+ghost use Rattle.txn_journal.specs.Texts.{columns_behind, uniques_text, hidden_part, cascade_part, tables_text, references_text, rows_text, assumptions_text, channel_and_journal_text, channels_and_journals_text, head_text, start_text};
 
+use crate::assumptions::Assumption;
 use crate::bundle::{Bundle, BundleChannel};
 use crate::lines::Version;
+use crate::references::Reference;
 use crate::writer::{write_image, write_journal_by, write_next_number, write_number, write_set};
 use gtid_set::GtidSet;
 use gtid_text::{SourceId, write_source};
@@ -155,6 +158,62 @@ fn write_tables(out: &mut String, tables: &[Table]) -> Result<(), AllocError>
     Ok(())
 }
 
+/// Appends the word of a reference whose children the server itself changes, and the end of its line.
+fn write_cascade(out: &mut String, cascade: bool) -> Result<(), AllocError>
+    ensures { OnOk result (string_bytes out.new ≡ string_bytes out.old ++ (cascade_part cascade ++ codes "\n")) }
+{
+    if cascade {
+        out.push_str(" cascade\n")
+    } else {
+        out.push_str("\n")
+    }
+}
+
+/// Appends the line of a reference.
+#[tactic(auto, using(crate::proofs::BundleWriting::reference_appended))]
+fn write_reference(out: &mut String, reference: &Reference) -> Result<(), AllocError>
+    ensures { OnOk result (string_bytes out.new ≡ string_bytes out.old ++ ended_bundle_line (Own (Refers (reference_shape reference.now)))) }
+{
+    out.push_str("fk ")?;
+    out.push_str(reference.child.as_str())?;
+    out.push_str(" ")?;
+    write_columns(out, reference.columns.as_slice())?;
+    out.push_str(" ")?;
+    out.push_str(reference.parent.as_str())?;
+    write_next_number(out, reference.key)?;
+    write_cascade(out, reference.cascade)
+}
+
+/// Appends the lines of references.
+fn write_references(out: &mut String, references: &[Reference]) -> Result<(), AllocError>
+    ensures { OnOk result (string_bytes out.new ≡ string_bytes out.old ++ references_text references.now) }
+{
+    for reference in references {
+        write_reference(out, reference)?;
+    }
+    Ok(())
+}
+
+/// Appends the line of an assumption.
+#[tactic(auto, using(crate::proofs::BundleWriting::assumption_appended))]
+fn write_assumption(out: &mut String, assumption: &Assumption) -> Result<(), AllocError>
+    ensures { OnOk result (string_bytes out.new ≡ string_bytes out.old ++ ended_bundle_line (Own (Assumes assumption.now))) }
+{
+    out.push_str("assume ")?;
+    assumption.write(out)?;
+    out.push_str("\n")
+}
+
+/// Appends the lines of assumptions.
+fn write_assumptions(out: &mut String, assumptions: &[Assumption]) -> Result<(), AllocError>
+    ensures { OnOk result (string_bytes out.new ≡ string_bytes out.old ++ assumptions_text assumptions.now) }
+{
+    for assumption in assumptions {
+        write_assumption(out, assumption)?;
+    }
+    Ok(())
+}
+
 /// Appends the line of a row.
 fn write_row(alloc: Global, out: &mut String, row: &TableRow) -> Result<(), AllocError>
     ensures { OnOk result (string_bytes out.new ≡ string_bytes out.old ++ ended_bundle_line (Own (Puts row.now))) }
@@ -229,12 +288,14 @@ fn write_start(
     replica: SourceId,
     opened: &GtidSet,
     tables: &[Table],
+    references: &[Reference],
     rows: &[TableRow],
 ) -> Result<(), AllocError>
-    ensures { OnOk result (string_bytes out.new ≡ string_bytes out.old ++ start_text version replica opened.now tables.now rows.now) }
+    ensures { OnOk result (string_bytes out.new ≡ string_bytes out.old ++ start_text version replica opened.now tables.now references.now rows.now) }
 {
     write_head(alloc, out, version, replica, opened)?;
     write_tables(out, tables)?;
+    write_references(out, references)?;
     write_rows(alloc, out, rows)
 }
 
@@ -257,10 +318,12 @@ fn write_bundle(
         bundle.replica(),
         bundle.opening_set(),
         schema.tables(),
+        bundle.references(),
         rows,
     )?;
     let (channels, journals) = (bundle.channels(), bundle.journals());
     write_channels(alloc, out, version, schema, channels, journals)?;
+    write_assumptions(out, bundle.assumptions())?;
     out.push_str("done\n")
 }
 

@@ -2,7 +2,7 @@
 ghost use Rattle.std.specs.Prelude.{◌≡◌, ◌≤◌, [], true, option_map, Some, IfOk};
 ghost use Rattle.std.specs.List.{list_all};
 ghost use Rattle.txn_journal.specs.Stream.{Finds};
-ghost use Rattle.txn_journal.specs.Lines.{version_in};
+ghost use Rattle.txn_journal.specs.Lines.{version_named, version_in};
 ghost use Rattle.txn_journal.specs.Machine.{is_row_of, are_rows_of, fits};
 ghost use Rattle.journal.specs.Writing.{is_number};
 ghost use Rattle.txn_journal.specs.Kept.{IsSeen, IsOpenNew, AreWritable};
@@ -15,7 +15,7 @@ ghost use Rattle.rows.specs.declared.limits.Limits.TheVariants.{Narrow};
 
 use crate::fault::{Cause, LineFault};
 use crate::images::{find_image, find_images, find_table, image, table_at, two_images};
-use crate::lines::{Keyword, LinePlace, Version, keyword_at};
+use crate::lines::{Due, Keyword, LinePlace, Version, keyword_at};
 use crate::names::Names;
 use crate::numbers::{NearSources, beginning_at};
 use crate::timestamped_journal::TimestampedJournal;
@@ -36,7 +36,7 @@ pub const MAX_ENTRIES: u64 = 4_294_967_294;
 pub struct Draft {
     place: LinePlace,
     /// The version that is due, or none if any known one is.
-    due: Option<Version>,
+    due: Due,
     version: Version,
     journal: Journal,
     /// The last_committed of each entry of the journal; 0 in version 1, which writes none.
@@ -57,8 +57,20 @@ pub struct Draft {
     ghost few: { count ≤ 4294967294 },
 }
 
+/// The version that a word names.
+fn version_named(word: &[u8]) -> Option<Version>
+    ensures { result ≡ version_named word.now }
+{
+    match word {
+        b"1" => Some(Version::One),
+        b"2" => Some(Version::Two),
+        b"3" => Some(Version::Three),
+        _ => None,
+    }
+}
+
 /// The version that a header names, if it is known.
-pub fn version_in(due: Option<Version>, rest: Option<&[u8]>) -> Result<Version, LineFault>
+pub fn version_in(due: Due, rest: Option<&[u8]>) -> Result<Version, LineFault>
     ensures { Finds (λ v. v) result (version_in due (option_map (λ r. r.now) rest.entry)) }
 {
     let Some(word) = rest else {
@@ -67,10 +79,8 @@ pub fn version_in(due: Option<Version>, rest: Option<&[u8]>) -> Result<Version, 
     if !is_count(word) {
         return Err(LineFault::Wrong(Cause::Body));
     }
-    match (word, due) {
-        (b"1", None | Some(Version::One)) => Ok(Version::One),
-        (b"2", None | Some(Version::Two)) => Ok(Version::Two),
-        (b"3", None | Some(Version::Three)) => Ok(Version::Three),
+    match version_named(word) {
+        Some(version) if due.takes(version) => Ok(version),
         _ => Err(LineFault::Wrong(Cause::Version)),
     }
 }
@@ -156,7 +166,7 @@ impl Draft {
     ghost use Rattle.txn_journal.specs.Timestamped.{timestamped_of};
 
     /// Before the first line.
-    pub fn start(alloc: Global, due: Option<Version>) -> Draft
+    pub fn start(alloc: Global, due: Due) -> Draft
         ensures { standing result ≡ empty due }
     {
         Draft {

@@ -9,6 +9,7 @@ ghost use Rattle.txn_journal.specs.Reading.{Stamped, stamped_of, without_entries
 ghost use Rattle.txn_journal.specs.Spelling.{IsWritten, WritesAs, Writes};
 ghost use Rattle.txn_journal.specs.Timestamped.{with_timestamps, HasText, IsReadBack};
 ghost use Rattle.txn_journal.specs.declared.lines.Version.{Version};
+ghost use Rattle.txn_journal.specs.declared.lines.Due.TheVariants.{Any, Only};
 ghost use Rattle.txn_journal.specs.declared.lines.Version.TheVariants.{One, Two};
 ghost use Rattle.txn_journal.specs.Widened.{WidensByThree, IsReadWidened};
 ghost use Rattle.txn_journal.specs.BundleStates.{BundleValue};
@@ -22,7 +23,7 @@ pub fn one_spelling()
     ensures one { (j : JournalValue) (ks ls a b : List ℕ) → WritesAs One ks a j → WritesAs One ls b j → a ≡ b }
     ensures each { (v : Version) (j : JournalValue) (ls a b : List ℕ) → WritesAs v ls a j → WritesAs v ls b j → a ≡ b }
     ensures journal { (bytes : List ℕ) (i j : JournalValue) → Writes bytes i → Writes bytes j → i ≡ j }
-    ensures whole { (bytes : List ℕ) (v w : WrittenJournal) → IsWrittenAs None bytes v → IsWrittenAs None bytes w → v ≡ w }
+    ensures whole { (bytes : List ℕ) (v w : WrittenJournal) → IsWrittenAs Any bytes v → IsWrittenAs Any bytes w → v ≡ w }
 {}
 
 /// Entries that were taken are those that would have come first.
@@ -46,7 +47,7 @@ pub fn rows_in_listed_order()
 /// A bundle of version 1 has a text by version 2, which is read as the same bundle.
 pub fn upgrade_keeps_bundle()
     ensures text { UpgradeHasText }
-    ensures read { (bytes : List ℕ) (b : BundleValue) → WritesBundleBy (Some One) bytes b → IsReadAs (spelling_by Two b) b }
+    ensures read { (bytes : List ℕ) (b : BundleValue) → WritesBundleBy (Only One) bytes b → IsReadAs (spelling_by Two b) b }
 {}
 
 /// What version 3 writes of a bundle of version 1 or 2 is a text of that bundle with the widest limits, and is read as it.

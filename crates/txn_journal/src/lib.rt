@@ -25,6 +25,7 @@
 //! code a reader is linear in its text: a line is copied only if it comes in more than one piece.
 #![tactic(auto)]
 
+mod assumptions;
 mod bundle;
 mod bundle_draft;
 mod bundle_reader;
@@ -41,12 +42,14 @@ mod numbers;
 mod open_bundle;
 mod parsed_lines;
 mod reader;
+mod references;
 mod tables;
 mod timestamped_journal;
 mod writer;
 
+pub use assumptions::Assumption;
 pub use bundle::{Bundle, BundleChannel};
-pub use bundle_reader::{BundleReader, any_cut_of_bundles, decode_bundle, decode_bundle_v1};
+pub use bundle_reader::{BundleReader, any_cut_of_bundles, decode_bundle, decode_bundle_by};
 pub use bundle_writer::{bundle_text, encode_bundle};
 pub use draft::MAX_ENTRIES;
 pub use fault::{Cause, JournalFault};
@@ -54,10 +57,11 @@ pub use laws::{
     one_bundle, one_spelling, rows_in_listed_order, taken_in_front, timestamped_read_back,
     upgrade_keeps_bundle, version_three_widens_bundle,
 };
-pub use lines::Version;
+pub use lines::{Due, Version};
 /// The `last_committed` of each entry, which `encode_v2` writes as its stamp.
 pub use logical_timestamps::last_committed_of as stamps;
 pub use parsed_lines::ParsedLines;
 pub use reader::{Reader, any_cut, decode, decode_v2};
+pub use references::Reference;
 pub use timestamped_journal::TimestampedJournal;
 pub use writer::{encode, encode_v2};

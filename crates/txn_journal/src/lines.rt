@@ -25,6 +25,34 @@ impl Version {
     }
 }
 
+/// Which versions are due.
+#[derive(Clone, Copy, Debug, PartialEq, Eq)]
+pub enum Due {
+    Any,
+    Only(Version),
+    /// Those before version 3.
+    BeforeThree,
+}
+
+impl Due {
+    ghost use Rattle.txn_journal.specs.Lines.{takes};
+
+    /// Whether a version is one of these.
+    pub fn takes(self, version: Version) -> bool
+        ensures { result ≡ takes self version }
+    {
+        match (self, version) {
+            (Due::Any, _) => true,
+            (Due::Only(Version::One), Version::One) => true,
+            (Due::Only(Version::Two), Version::Two) => true,
+            (Due::Only(Version::Three), Version::Three) => true,
+            (Due::Only(_), _) => false,
+            (Due::BeforeThree, Version::Three) => false,
+            (Due::BeforeThree, _) => true,
+        }
+    }
+}
+
 /// Where in a journal the next line is.
 #[derive(Clone, Copy, Debug, PartialEq, Eq)]
 pub enum LinePlace {

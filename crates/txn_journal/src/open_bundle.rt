@@ -3,8 +3,10 @@ ghost use Rattle.std.specs.Prelude.{◌≡◌, ◌∷◌, ◌++◌, [], OnOk};
 ghost use Rattle.txn_journal.specs.Stream.{TakesPart};
 ghost use Rattle.txn_journal.specs.BundleStates.{bare, with_opening};
 
+use crate::assumptions::Assumption;
 use crate::bundle::BundleChannel;
 use crate::fault::{Cause, LineFault};
+use crate::references::Reference;
 use gtid_set::{GtidSet, SetFault};
 use gtid_text::SourceId;
 use journal::Journal;
@@ -12,13 +14,16 @@ use rows::{ApplyFault, Name, Row, Rows, Schema};
 use std::alloc::{AllocError, Global};
 use std::marker::Model;
 
-/// A replica, the set of GTIDs with which it begins, its opening rows, and the channels that have come, each with its journal.
+/// A replica, the set of GTIDs with which it begins, its opening rows and references, the channels that have come, each with its journal, and
+/// what is assumed.
 pub struct OpenBundle {
     replica: SourceId,
     opened: GtidSet,
     rows: Rows,
+    references: Vec<Reference>,
     channels: Vec<BundleChannel>,
     journals: Vec<Journal>,
+    assumptions: Vec<Assumption>,
 }
 
 impl Drop for OpenBundle {
@@ -28,8 +33,10 @@ impl Drop for OpenBundle {
             replica: _replica,
             opened: _opened,
             rows: _rows,
+            references: _references,
             channels: _channels,
             journals: _journals,
+            assumptions: _assumptions,
         } = self;
     }
 }
@@ -44,20 +51,22 @@ impl Model for OpenBundle {
 
     ghost coded = { Prim.hlevel (codes, gtids_code, rows_code) };
 
-    ghost view = { λ b. record { replica = b.replica; opened = b.opened; start = b.rows; channels = b.channels.items; journals = b.journals.items } };
+    ghost view = { λ b. record { replica = b.replica; opened = b.opened; start = b.rows; references = b.references.items; channels = b.channels.items; journals = b.journals.items; assumptions = b.assumptions.items } };
 }
 
 impl OpenBundle {
     /// A bundle without channels.
     pub fn open(alloc: Global, replica: SourceId, opened: GtidSet, rows: Rows) -> OpenBundle
-        ensures { result ≡ record { replica = replica; opened = opened; start = rows; channels = []; journals = [] } }
+        ensures { result ≡ record (bare replica opened []) { start = rows } }
     {
         OpenBundle {
             replica,
             opened,
             rows,
+            references: Vec::new(alloc),
             channels: Vec::new(alloc),
             journals: Vec::new(alloc),
+            assumptions: Vec::new(alloc),
         }
     }
 
@@ -66,8 +75,10 @@ impl OpenBundle {
         ensures { self.new ≡ bare self.old.replica self.old.opened schema }
     {
         self.rows = Rows::open(alloc, schema);
+        self.references = Vec::new(alloc);
         self.channels = Vec::new(alloc);
         self.journals = Vec::new(alloc);
+        self.assumptions = Vec::new(alloc);
     }
 
     /// Appends a channel.
@@ -77,6 +88,22 @@ impl OpenBundle {
         self.journals.reserve(1)?;
         self.channels.push(channel)?;
         self.journals.push(journal)?;
+        Ok(())
+    }
+
+    /// Appends a reference.
+    pub fn refer(&mut self, reference: Reference) -> Result<(), AllocError>
+        ensures ok { OnOk result (self.new ≡ record self.old { references = self.old.references ++ reference ∷ [] }) }
+    {
+        self.references.push(reference)?;
+        Ok(())
+    }
+
+    /// Appends an assumption.
+    pub fn assume(&mut self, assumption: Assumption) -> Result<(), AllocError>
+        ensures ok { OnOk result (self.new ≡ record self.old { assumptions = self.old.assumptions ++ assumption ∷ [] }) }
+    {
+        self.assumptions.push(assumption)?;
         Ok(())
     }
 
@@ -121,6 +148,13 @@ impl OpenBundle {
         &self.rows
     }
 
+    /// The references, in order.
+    pub fn references(&self) -> &[Reference]
+        ensures { result.now ≡ self.now.references }
+    {
+        &self.references
+    }
+
     /// The channels, in order.
     pub fn channels(&self) -> &[BundleChannel]
         ensures { result.now ≡ self.now.channels }
@@ -133,5 +167,11 @@ impl OpenBundle {
         ensures { result.now ≡ self.now.journals }
     {
         &self.journals
+    }
+    /// The assumptions, in order.
+    pub fn assumptions(&self) -> &[Assumption]
+        ensures { result.now ≡ self.now.assumptions }
+    {
+        &self.assumptions
     }
 }

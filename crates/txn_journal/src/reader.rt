@@ -11,7 +11,7 @@ ghost use Rattle.txn_journal.specs.Timestamped.{TimestampedValue, WritesTimestam
 use crate::draft::Draft;
 use crate::fault::{JournalFault, LineFault};
 use crate::feed::{Feed, TakeLine};
-use crate::lines::Version;
+use crate::lines::{Due, Version};
 use crate::names::Names;
 use crate::timestamped_journal::TimestampedJournal;
 use journal::{Entry, Journal};
@@ -108,11 +108,11 @@ impl Reader {
     pub fn start(alloc: Global) -> Reader
         ensures { reading result ≡ before_first }
     {
-        Reader::start_as(alloc, None)
+        Reader::start_as(alloc, Due::Any)
     }
 
     /// Before the first byte of a journal of the version that is due.
-    fn start_as(alloc: Global, due: Option<Version>) -> Reader
+    fn start_as(alloc: Global, due: Due) -> Reader
         ensures { reading result ≡ alone_start due }
     {
         let made = Alone {
@@ -170,7 +170,7 @@ impl Reader {
     }
 
     /// The reader of all of these bytes. It keeps a fault, which its end returns.
-    fn over(alloc: Global, due: Option<Version>, bytes: &[u8]) -> Reader
+    fn over(alloc: Global, due: Due, bytes: &[u8]) -> Reader
         ensures { IsAfter (IsFaultAlone (alone_start due) bytes.now) (reading result) (feed_journal_bytes (alone_start due) bytes.now) }
     {
         let mut reader = Reader::start_as(alloc, due);
@@ -190,7 +190,7 @@ pub fn decode(alloc: Global, bytes: &[u8]) -> Result<Journal, JournalFault>
     // The same, by the fold over the bytes.
     ensures exact { IsWhole result (closing (feed_journal_bytes before_first bytes.now)) }
 {
-    Reader::over(alloc, None, bytes).finish()
+    Reader::over(alloc, Due::Any, bytes).finish()
 }
 
 /// The journal that the bytes parse as by version 2 of the format, all of the bytes, with the last_committed of each entry as it
@@ -208,7 +208,7 @@ pub fn decode_v2(alloc: Global, bytes: &[u8]) -> Result<TimestampedJournal, Jour
     // A text of version 1 is refused at its first line.
     ensures version { BeginsAsVersionOne bytes.now → IsWhole result (Err first_line_version) }
 {
-    Reader::over(alloc, Some(Version::Two), bytes).finish_timestamped()
+    Reader::over(alloc, Due::Only(Version::Two), bytes).finish_timestamped()
 }
 
 /// A text is read the same, however it is cut into pieces.

@@ -49,7 +49,7 @@ fn cut_at(separator: u8, text: &[u8]) -> (&[u8], Option<&[u8]>)
 }
 
 /// The parts between separators.
-fn parts(alloc: Global, separator: u8, text: &[u8]) -> Result<Vec<&[u8]>, AllocError>
+pub fn parts(alloc: Global, separator: u8, text: &[u8]) -> Result<Vec<&[u8]>, AllocError>
     ensures { IfOk result (λ parts. map (λ p. p.now) parts.items ≡ parts_of separator text.now) }
 {
     let mut parts = Vec::new(alloc);
@@ -90,7 +90,7 @@ fn are_new(alloc: Global, words: &[&[u8]]) -> Result<bool, AllocError>
 }
 
 /// Whether a text is one or more column numbers, joined by commas, no number twice.
-fn is_columns(alloc: Global, text: &[u8]) -> Result<bool, AllocError>
+pub fn is_columns(alloc: Global, text: &[u8]) -> Result<bool, AllocError>
     ensures { IfOk result (λ is. is ≡ is_columns_text text.now) }
 {
     let words = parts(alloc, b',', text)?;
@@ -211,7 +211,7 @@ fn table_words<'a>(
 /// The numbers of columns, if each is below the limit.
 #[tactic(auto, unfolding(crate::specs::Shapes::numbers_from))]
 fn numbers_below(alloc: Global, limit: u64, words: &[&[u8]]) -> Result<Vec<u32>, LineFault>
-    requires { limit ≤ 4096 }
+    requires { limit ≤ 4294967296 }
     ensures { Finds (λ c. c.items) result (numbers_from limit [] (map (λ w. w.now) words.now)) }
 {
     let mut columns = Vec::new(alloc);
@@ -226,8 +226,8 @@ fn numbers_below(alloc: Global, limit: u64, words: &[&[u8]]) -> Result<Vec<u32>,
 
 /// The columns that a text names, if each is below the limit.
 #[tactic(auto, unfolding(crate::specs::Shapes::columns_in))]
-fn columns_below(alloc: Global, limit: u64, text: &[u8]) -> Result<Columns, LineFault>
-    requires { limit ≤ 4096 }
+pub fn columns_below(alloc: Global, limit: u64, text: &[u8]) -> Result<Columns, LineFault>
+    requires { limit ≤ 4294967296 }
     ensures { Finds (λ c. c) result (columns_in limit text.now) }
 {
     let words = parts(alloc, b',', text)?;
@@ -238,7 +238,7 @@ fn columns_below(alloc: Global, limit: u64, text: &[u8]) -> Result<Columns, Line
 /// The columns of each key, if each is below the limit.
 #[tactic(auto, unfolding(crate::specs::Shapes::keys_from))]
 fn lists_below(alloc: Global, limit: u64, texts: &[&[u8]]) -> Result<Vec<Columns>, LineFault>
-    requires { limit ≤ 4096 }
+    requires { limit ≤ 4294967296 }
     ensures { Finds (λ k. k.items) result (keys_from limit [] (map (λ t. t.now) texts.now)) }
 {
     let mut keys = Vec::new(alloc);
@@ -249,7 +249,7 @@ fn lists_below(alloc: Global, limit: u64, texts: &[&[u8]]) -> Result<Vec<Columns
 }
 
 fn keys_below(alloc: Global, limit: u64, texts: &[&[u8]]) -> Result<ColumnLists, LineFault>
-    requires { limit ≤ 4096 }
+    requires { limit ≤ 4294967296 }
     ensures { Finds (λ c. c) result (keys_from limit [] (map (λ t. t.now) texts.now)) }
 {
     let keys = lists_below(alloc, limit, texts)?;

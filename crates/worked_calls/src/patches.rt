@@ -66,11 +66,16 @@ fn see(alloc: Global, rows: &Rows, txn: &Transaction) -> Result<Footprint, Alloc
 
 /// A transaction, prepared over rows; None where it does not apply to them.
 fn prepare_over(alloc: Global, rows: &Rows, txn: &Transaction) -> Option<Patch> {
-    let seen = see(alloc, rows, txn).ok()?;
+    let Ok(seen) = see(alloc, rows, txn) else {
+        return None;
+    };
     if fits(rows.schema(), txn).is_err() {
         return None;
     }
-    prepare(alloc, txn.clone().ok()?, seen).ok()
+    let Ok(txn) = txn.clone() else {
+        return None;
+    };
+    prepare(alloc, txn, seen).ok()
 }
 
 /// The insert, prepared over no rows.

@@ -7,6 +7,7 @@ use Rattle.txn_journal.specs.declared.fault.JournalFault.{JournalFault}
 use Rattle.txn_journal.proofs.FormatLaws.{closed_after, is_found, is_only, is_refused, whole_of}
 use Rattle.txn_journal.proofs.JournalLaws.{IsSoundAlone, journal_laws}
 use Rattle.txn_journal.proofs.reader.decode.Goals as goal
+use Rattle.txn_journal.specs.declared.lines.Due.TheVariants.{Any}
 
 pub returns : goal.returns
 returns c =
@@ -14,8 +15,8 @@ returns c =
     let closed = closed_after journals bytes (reading c.over.result) c.over.ensures in
     let read = subst (λ (r : Result JournalValue JournalFault). IsWholeOr (IsFaultAlone before_first bytes) r (closing (feed_journal_bytes before_first bytes))) (sym c.finish.ensures) closed in
     record {
-      found = is_found journals (IsSoundAlone None) journal_laws c.finish.result bytes read;
-      only = is_only journals (IsSoundAlone None) journal_laws c.finish.result bytes read;
-      refused = is_refused journals (IsSoundAlone None) journal_laws c.finish.result bytes read;
+      found = is_found journals (IsSoundAlone Any) journal_laws c.finish.result bytes read;
+      only = is_only journals (IsSoundAlone Any) journal_laws c.finish.result bytes read;
+      refused = is_refused journals (IsSoundAlone Any) journal_laws c.finish.result bytes read;
       exact = whole_of _ _ _ read;
     }

@@ -9,6 +9,7 @@ use Rattle.txn_journal.proofs.FormatLaws.{closed_after, is_found, is_only, is_re
 use Rattle.txn_journal.proofs.JournalLaws.{IsSoundAlone}
 use Rattle.txn_journal.proofs.TimestampedLaws.{timestamped_laws, older_whole}
 use Rattle.txn_journal.proofs.reader.decode_v2.Goals as goal
+use Rattle.txn_journal.specs.declared.lines.Due.TheVariants.{Only}
 
 pub returns : goal.returns
 returns c =
@@ -16,9 +17,9 @@ returns c =
     let closed = closed_after timestamped_journals bytes (reading c.over.result) c.over.ensures in
     let read = subst (λ (r : Result TimestampedValue JournalFault). IsWholeOr (IsFaultAlone timestamped_start bytes) r (closing_timestamped (feed_journal_bytes timestamped_start bytes))) (sym c.finish_timestamped.ensures) closed in
     record {
-      found = is_found timestamped_journals (IsSoundAlone (Some Two)) timestamped_laws c.finish_timestamped.result bytes read;
-      only = is_only timestamped_journals (IsSoundAlone (Some Two)) timestamped_laws c.finish_timestamped.result bytes read;
-      refused = is_refused timestamped_journals (IsSoundAlone (Some Two)) timestamped_laws c.finish_timestamped.result bytes read;
+      found = is_found timestamped_journals (IsSoundAlone (Only Two)) timestamped_laws c.finish_timestamped.result bytes read;
+      only = is_only timestamped_journals (IsSoundAlone (Only Two)) timestamped_laws c.finish_timestamped.result bytes read;
+      refused = is_refused timestamped_journals (IsSoundAlone (Only Two)) timestamped_laws c.finish_timestamped.result bytes read;
       exact = whole_of _ _ _ read;
       version = older_whole c.finish_timestamped.result bytes (whole_of _ _ _ read);
     }

@@ -1,0 +1,114 @@
+-- What a verdict rests on that the bundle doesn't show.
+use Rattle.std.specs.Prelude.{◌≡◌, ℕ, ◌-◌, ◌≤◌, ◌==◌, Bool, true, false, not, ◌&&◌, ◌||◌, nat_lt, nat_le, List, [], ◌∷◌, ◌++◌, length, Option, Some, None, Result, Ok, Err, codes, if◌then◌else◌, slice_get}
+use Rattle.std.specs.List.{list_any}
+use Rattle.std.specs.Str.{bytes_eq}
+use Rattle.std.specs.Ordering.{nat_cmp, is_lt, eq_by_cmp}
+use Rattle.std.specs.Cmp.Lexicographic.{slice_cmp}
+use Rattle.rows.specs.declared.limits.Limits.{Limits}
+use Rattle.rows.specs.declared.schema.Table.{Table}
+use Rattle.rows.specs.Tables.{is_taken}
+use Rattle.row_images.specs.Words.{first_word, others}
+use Rattle.txn_journal.specs.Versions.{is_named, IsWide}
+use Rattle.txn_journal.specs.Words.{name_of}
+use Rattle.txn_journal.specs.Lines.{◌>>=◌, some_or_body, nothing_in}
+use Rattle.txn_journal.specs.declared.assumptions.Assumption.{Assumption}
+use Rattle.txn_journal.specs.declared.assumptions.Assumption.TheVariants.{Executed, Checksums, Ignored, References}
+use Rattle.txn_journal.specs.declared.bundle.BundleChannel.{BundleChannel}
+use Rattle.txn_journal.specs.declared.fault.Cause.{Cause}
+use Rattle.txn_journal.specs.declared.fault.Cause.TheVariants as causes
+
+-- ---- as text
+
+-- what follows its word
+abbrev pub named : Assumption → List ℕ
+named (Executed channel) = channel
+named (Checksums channel) = channel
+named (Ignored table) = table
+named References = []
+
+abbrev pub assumption_text : Assumption → List ℕ
+assumption_text (Executed channel) = codes "executed" ++ 32 ∷ channel
+assumption_text (Checksums channel) = codes "checksums" ++ 32 ∷ channel
+assumption_text (Ignored table) = codes "ignored" ++ 32 ∷ table
+assumption_text References = codes "references"
+
+-- the names in it are those of texts with these limits
+abbrev pub FitsAssumption : Limits → Assumption → Type 0
+FitsAssumption limits (Executed channel) = is_named limits channel ≡ true
+FitsAssumption limits (Checksums channel) = is_named limits channel ≡ true
+FitsAssumption limits (Ignored table) = is_named limits table ≡ true
+FitsAssumption limits References = Unit {0}
+
+-- ---- their order
+
+-- by their words
+abbrev pub rank : Assumption → ℕ
+rank (Executed channel) = 0
+rank (Checksums channel) = 1
+rank (Ignored table) = 4
+rank References = 5
+
+-- within one word by the bytes of what follows
+abbrev pub comes_before : Assumption → Assumption → Bool
+comes_before a b = nat_lt (rank a) (rank b) || (rank a == rank b && is_lt (slice_cmp nat_cmp (named a) (named b)))
+
+abbrev pub last_of : List Assumption → Option Assumption
+last_of assumptions = slice_get assumptions (length assumptions - 1)
+
+-- each line comes before the next
+abbrev pub may_follow : Option Assumption → Assumption → Bool
+may_follow None a = true
+may_follow (Some last) a = comes_before last a
+
+-- ---- as it is read
+
+abbrev pub name_behind : Limits → Option (List ℕ) → Result (List ℕ) Cause
+name_behind limits None = Err causes.Body
+name_behind limits (Some word) = some_or_body (name_of limits word)
+
+abbrev pub named_in : Limits → (List ℕ → Assumption) → Option (List ℕ) → Result Assumption Cause
+named_in limits make rest = name_behind limits rest >>= λ name. Ok (make name)
+
+unfoldable pub assumption_of : Limits → List ℕ → Option (List ℕ) → Result Assumption Cause
+assumption_of limits word rest =
+    if bytes_eq word (codes "executed") then named_in limits Executed rest
+    else if bytes_eq word (codes "checksums") then named_in limits Checksums rest
+    else if bytes_eq word (codes "ignored") then named_in limits Ignored rest
+    else if bytes_eq word (codes "references") then (nothing_in rest >>= λ nothing. Ok References)
+    else Err causes.Body
+
+abbrev pub assumption_in : Limits → Option (List ℕ) → Result Assumption Cause
+assumption_in limits None = Err causes.Body
+assumption_in limits (Some text) = assumption_of limits (first_word text) (others text)
+
+abbrev pub in_order : List Assumption → Assumption → Result Assumption Cause
+in_order before a = if may_follow (last_of before) a then Ok a else Err causes.Body
+
+-- what a line says after these
+abbrev pub next_assumption : Limits → List Assumption → Option (List ℕ) → Result Assumption Cause
+next_assumption limits before rest = assumption_in limits rest >>= λ a. in_order before a
+
+-- ---- what may be assumed
+
+abbrev pub has_channel : List BundleChannel → List ℕ → Bool
+has_channel channels name = list_any (λ c. eq_by_cmp (slice_cmp nat_cmp) c.name name) channels
+
+-- the channel that it names is there; the table that it names is not
+abbrev pub may_assume : List Table → List BundleChannel → Assumption → Bool
+may_assume tables channels (Executed channel) = has_channel channels channel
+may_assume tables channels (Checksums channel) = has_channel channels channel
+may_assume tables channels (Ignored table) = not (is_taken table tables)
+may_assume tables channels References = true
+
+abbrev pub most_assumptions : ℕ
+most_assumptions = 65536
+
+-- each may come after those before it. Texts with narrow limits have none.
+abbrev pub AreInOrder : Limits → List Table → List BundleChannel → List Assumption → List Assumption → Type 0
+AreInOrder limits tables channels before [] = Unit {0}
+AreInOrder limits tables channels before (a ∷ said) =
+    IsWide limits × FitsAssumption limits a × (may_follow (last_of before) a ≡ true) × (may_assume tables channels a ≡ true) × AreInOrder limits tables channels (before ++ a ∷ []) said
+
+pub record AreAssumptions (limits : Limits) (tables : List Table) (channels : List BundleChannel) (said : List Assumption) : Type 0 where
+  pub few : length said ≤ most_assumptions
+  pub each : AreInOrder limits tables channels [] said

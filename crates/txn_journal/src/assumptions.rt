@@ -1,0 +1,170 @@
+//! Assumptions: what a verdict rests on that the bundle doesn't show.
+ghost use Rattle.std.specs.Prelude.{◌≡◌, ◌++◌, option_map, OnOk};
+ghost use Rattle.std.specs.String.{string_bytes};
+ghost use Rattle.txn_journal.specs.Stream.{Finds};
+ghost use Rattle.txn_journal.specs.Assumptions.{named, rank, assumption_text, comes_before, last_of, may_follow, has_channel, may_assume, name_behind, assumption_of, assumption_in};
+
+use crate::bundle::BundleChannel;
+use crate::fault::{Cause, LineFault};
+use crate::names::Names;
+use row_images::cut;
+use rows::{Limits, Name, Schema};
+use std::alloc::{AllocError, Global};
+
+/// The greatest number of assumptions. Our own limit.
+pub const MAX_ASSUMPTIONS: usize = 65_536;
+
+/// Something that a verdict rests on and that the bundle doesn't show.
+#[derive(Drop)]
+pub enum Assumption {
+    /// Nobody said what the server of this channel had executed: its log may end early.
+    Executed(Name),
+    /// The log of this channel has no checksums: damage in it can't be seen.
+    Checksums(Name),
+    /// Changes of this table, or of all of this database, were left out.
+    Ignored(Name),
+    /// Foreign keys aren't looked at.
+    References,
+}
+
+impl Assumption {
+    /// Its place among the words, which is the order of the lines.
+    fn rank(&self) -> u8
+        ensures { result ≡ rank self.now }
+    {
+        match self {
+            Assumption::Executed(_) => 0,
+            Assumption::Checksums(_) => 1,
+            Assumption::Ignored(_) => 4,
+            Assumption::References => 5,
+        }
+    }
+
+    /// What follows its word.
+    fn named(&self) -> &[u8]
+        ensures { result.now ≡ named self.now }
+    {
+        match self {
+            Assumption::Executed(name) | Assumption::Checksums(name) | Assumption::Ignored(name) =>
+                name.as_str().as_bytes(),
+            Assumption::References => &[],
+        }
+    }
+
+    /// Whether its line comes before that of another.
+    fn comes_before(&self, other: &Assumption) -> bool
+        ensures { result ≡ comes_before self.now other.now }
+    {
+        self.rank() < other.rank()
+            || self.rank() == other.rank() && self.named().cmp(other.named()).is_lt()
+    }
+
+    /// Appends the words that say it.
+    pub fn write(&self, out: &mut String) -> Result<(), AllocError>
+        ensures { OnOk result (string_bytes out.new ≡ string_bytes out.old ++ assumption_text self.now) }
+    {
+        match self {
+            Assumption::Executed(channel) => write_named(out, "executed ", channel),
+            Assumption::Checksums(channel) => write_named(out, "checksums ", channel),
+            Assumption::Ignored(table) => write_named(out, "ignored ", table),
+            Assumption::References => out.push_str("references"),
+        }
+    }
+}
+
+/// Appends a word and a name.
+#[tactic(auto, using(crate::proofs::BundleWriting::named_appended))]
+fn write_named(out: &mut String, word: &str, name: &Name) -> Result<(), AllocError>
+    ensures { OnOk result (string_bytes out.new ≡ string_bytes out.old ++ (word.now ++ name.now)) }
+{
+    out.push_str(word)?;
+    out.push_str(name.as_str())
+}
+
+/// Whether an assumption may follow these.
+pub fn may_follow(before: &[Assumption], assumption: &Assumption) -> bool
+    ensures { result ≡ may_follow (last_of before.now) assumption.now }
+{
+    match before {
+        [] => true,
+        [.., last] => last.comes_before(assumption),
+    }
+}
+
+/// Whether a channel has this name.
+pub fn has_channel(channels: &[BundleChannel], name: &Name) -> bool
+    ensures { result ≡ has_channel channels.now name.now }
+{
+    channels.iter().any(|channel| channel.name == *name)
+}
+
+/// Whether the channel that an assumption names is there, or the table that it names is not.
+pub fn may_assume(schema: &Schema, channels: &[BundleChannel], assumption: &Assumption) -> bool
+    ensures { result ≡ may_assume schema.now channels.now assumption.now }
+{
+    match assumption {
+        Assumption::Executed(channel) | Assumption::Checksums(channel) => has_channel(
+            channels, channel,
+        ),
+        Assumption::Ignored(table) => schema.find(table).is_none(),
+        Assumption::References => true,
+    }
+}
+
+/// The name that is the whole rest of a line.
+fn name_in(
+    alloc: Global,
+    limits: Limits,
+    names: &mut Names,
+    rest: Option<&[u8]>,
+) -> Result<Name, LineFault>
+    ensures { Finds (λ n. n) result (name_behind limits (option_map (λ r. r.now) rest.entry)) }
+{
+    let Some(word) = rest else {
+        return Err(LineFault::Wrong(Cause::Body));
+    };
+    match names.read(alloc, limits, word)? {
+        Some(name) => Ok(name),
+        None => Err(LineFault::Wrong(Cause::Body)),
+    }
+}
+
+/// The assumption of a word and what follows it.
+#[tactic(auto, unfolding(crate::specs::Assumptions::assumption_of))]
+fn assumption_of(
+    alloc: Global,
+    limits: Limits,
+    names: &mut Names,
+    word: &[u8],
+    rest: Option<&[u8]>,
+) -> Result<Assumption, LineFault>
+    ensures { Finds (λ a. a) result (assumption_of limits word.now (option_map (λ r. r.now) rest.entry)) }
+{
+    if word == b"executed".as_slice() {
+        Ok(Assumption::Executed(name_in(alloc, limits, names, rest)?))
+    } else if word == b"checksums".as_slice() {
+        Ok(Assumption::Checksums(name_in(alloc, limits, names, rest)?))
+    } else if word == b"ignored".as_slice() {
+        Ok(Assumption::Ignored(name_in(alloc, limits, names, rest)?))
+    } else if word == b"references".as_slice() && rest.is_none() {
+        Ok(Assumption::References)
+    } else {
+        Err(LineFault::Wrong(Cause::Body))
+    }
+}
+
+/// The assumption of a line.
+pub fn assumption_in(
+    alloc: Global,
+    limits: Limits,
+    names: &mut Names,
+    rest: Option<&[u8]>,
+) -> Result<Assumption, LineFault>
+    ensures { Finds (λ a. a) result (assumption_in limits (option_map (λ r. r.now) rest.entry)) }
+{
+    let Some(text) = rest else {
+        return Err(LineFault::Wrong(Cause::Body));
+    };
+    let (word, more) = cut(text);
+    assumption_of(alloc, limits, names, word, more)
+}
