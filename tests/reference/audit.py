@@ -146,7 +146,7 @@ class Audit:
         return "\n".join([first, *self.all_faults()[1:], *([f"if {', '.join(assumed)}"] if assumed else [])]), status
 
     def applied(self) -> Answer:
-        """The state where the verdict is `sound`, with what it rests on, and the exit status."""
+        """The state where the verdict is `sound`, with what it rests on, or that there are no rows to apply changes to; and the exit status."""
         verdict, assumed = self.verdict(), self.bundle.assumed()
         if verdict != "sound":
             return verdict, 1

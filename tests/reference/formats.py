@@ -322,6 +322,7 @@ class BundleDraft:
             ask(journal, Cause.SCHEMA)
             assert journal is not None
             ask(word != "statements" or not gtids - GtidSet.of(it.gtid for it in journal.entries), Cause.SCHEMA)
+            ask(word != "opening" or not gtids - self.bundle.opening, Cause.SCHEMA)
         elif word == "rows":
             ask(not self.bundle.rows.carriers, Cause.SCHEMA)
 

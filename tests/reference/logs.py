@@ -202,17 +202,24 @@ class Imported:
     notes: list[str] = field(default_factory=list)
 
     def head(self) -> Bundle:
-        """The bundle that the lines before the first channel begin."""
-        plain: list[str] = []
-        for text in self.lines[: next(self.own(0))]:
-            if not text.startswith("unsupported "):
-                plain.append(text)
-                continue
-            what, _, place = text.removeprefix("unsupported ").partition(" ")
-            if what != "foreign-key" or "--without-foreign-keys" not in self.granted:
-                raise Refused(f"refused import {text}")
-            self.notes.append(f"assume references {place}: foreign keys aren't looked at")
-        return read_bundle("".join(f"{it}\n" for it in [*plain, "done"]), {"2"})
+        """The bundle that the lines before the first channel begin; a refusal has the number of its line among all lines."""
+        end = next(self.own(0))
+        places = [at for at in range(end) if not self.lines[at].startswith("unsupported ")]
+        for text in self.lines[:end]:
+            if text.startswith("unsupported "):
+                self.pass_over(text)
+        try:
+            return read_bundle("".join(f"{it}\n" for it in [*(self.lines[at] for at in places), "done"]), {"2", "3"})
+        except Refused as refused:
+            line = re.sub(r"(?<=line )\d+", lambda it: str([*places, end][int(it[0]) - 1] + 1), refused.line)
+            raise Refused(line) from None
+
+    def pass_over(self, text: str) -> None:
+        """Passes over what the bundle can't hold, where that is granted."""
+        what, _, place = text.removeprefix("unsupported ").partition(" ")
+        if what != "foreign-key" or "--without-foreign-keys" not in self.granted:
+            raise Refused(f"refused import {text}")
+        self.notes.append(f"assume references {place}: foreign keys aren't looked at")
 
     def own(self, first: int) -> Iterator[int]:
         """The places of the bundle's own lines, from this one on."""
@@ -224,6 +231,8 @@ class Imported:
         places = list(self.own(0))
         said: list[tuple[Channel, GtidSet]] = []
         for at, behind in zip(places, places[1:]):
+            if bundle.assumptions:
+                raise Refused(f"refused E14 line {at + 1} keyword")
             name, *words = self.lines[at].removeprefix("channel ").split(" ")
             preserve = words[:1] == ["preserve"]
             words = words[preserve:]
@@ -253,4 +262,6 @@ def imported(text: str, options: list[str]) -> tuple[str, int, str]:
         bundle = found.bundle()
     except Refused as refusal:
         return "", 1, f"{refusal.line}\n"
-    return "".join(f"{it}\n" for it in bundle_lines(bundle, 2)), 0, "".join(f"{it}\n" for it in found.notes)
+    # (a head of version 3 has no channels)
+    version = 3 if bundle.version == "3" and (bundle.schema or bundle.assumptions) else 2
+    return "".join(f"{it}\n" for it in bundle_lines(bundle, version)), 0, "".join(f"{it}\n" for it in found.notes)

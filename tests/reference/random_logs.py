@@ -5,8 +5,11 @@ from __future__ import annotations
 from collections.abc import Callable, Iterable
 from random import Random
 
+from .formats import bundle_lines
 from .gtids import Gtid, GtidSet
 from .logs import LAST
+from .random_bundles import BundleMaker
+from .random_version3 import Widener
 from .rows import Change, Table, Value
 
 FIRST = [
@@ -233,8 +236,23 @@ DAMAGE: list[Callable[[BundleOfLogs], None]] = [
 ]
 
 
+def head_text(chance: Random) -> str:
+    """A head of version 3 without channels. Now and then it has rows and says that they aren't known, or a line that a bundle can't hold."""
+    narrow = BundleMaker(chance).tidy_bundle(True)
+    narrow.channels = []
+    wide = Widener(chance).bundle(narrow)
+    lines = [*bundle_lines(wide, 3)]
+    if "rows" not in wide.assumptions and chance.randrange(4) == 0:
+        lines.insert(-1, "assume rows")
+    if chance.randrange(4) == 0:
+        lines.insert(chance.randrange(len(lines)), f"unsupported foreign-key d.t.{chance.choice('abc')}")
+    return "".join(f"{it}\n" for it in lines)
+
+
 def logs_text(chance: Random) -> str:
-    """The text of a bundle of logs, perhaps damaged."""
+    """The text of a bundle of logs, perhaps damaged; now and then a head alone."""
+    if chance.randrange(10) == 0:
+        return head_text(chance)
     made = BundleOfLogs(chance)
     for _ in range(chance.randrange(3)):
         chance.choice(DAMAGE)(made)

@@ -139,15 +139,20 @@ def version2(chance: Random) -> list[Run]:
 
 
 def version3(chance: Random) -> list[Run]:
-    """A bundle of version 3, audited in all ways, applied and upgraded; now and then with a fault. Now and then one of version 2 is upgraded too,
-    and what comes of that audited."""
+    """A bundle of version 3, audited in all ways, applied in both and upgraded; now and then with a fault. Now and then one of version 2 is
+    upgraded too, and what comes of that audited."""
     maker = BundleMaker(chance)
     narrow = Failovers(chance).bundle() if maker.is_one_in(3) else maker.bundle(True)
-    text = text_of(bundle_lines(Widener(chance).bundle(narrow), 3))
-    if maker.is_one_in(3):
+    wide = Widener(chance).bundle(narrow)
+    text = text_of(bundle_lines(wide, 3))
+    is_broken = maker.is_one_in(3)
+    if is_broken:
         text = TextBreaker(chance).texts(text)
-    ways = ["audit", "audit --all", "audit --ordered", apply_words(chance), f"apply --ordered --workers {chance.choice([1, 2])}"]
-    runs = gtidrep(text, *ways, upgrade_words(chance))
+    ways = ["audit", "audit --all", apply_words(chance), f"apply --by replica --workers {chance.choice([1, 2])}"]
+    runs = gtidrep(text, *ways, f"apply --ordered --workers {chance.choice([1, 2])}", upgrade_words(chance))
+    runs.append(OrderedRun("gtidrep", ("audit", "--ordered"), text))
+    if "rows" in wide.assumptions and not is_broken:
+        runs.append(HistoryRun("gtidrep", ("apply", "--by", "replica", "--history", "--workers", "2"), text))
     return runs + upgrade_runs(chance, narrow) if maker.is_one_in(3) else runs
 
 

@@ -1,5 +1,5 @@
-"""Random scripts, of one replica and of networks. Written independently, from docs/SCRIPTS.md: the scripts that the programs are compared
-on.
+"""Random scripts, of one replica and of networks, by version 1 and version 3 of the formats. Written independently, from docs/SCRIPTS.md:
+the scripts that the programs are compared on.
 
 A maker hands each line to the reference as it goes, and chooses the next one by the state that it finds there: most events mean something,
 and some are nonsense. Tables, sources, channels and seats are few, so that transactions meet each other's keys, GTIDs come twice and
@@ -18,9 +18,11 @@ from .gtids import GREATEST, MOST_SOURCES, Gtid, GtidSet, Span
 from .network import Network
 from .random_bundles import CHANNEL_NAMES, SOURCES, BundleMaker
 from .random_texts import TextBreaker
+from .random_version3 import NAMES, Widener
 from .replica import Channel, Replica
 from .rows import Change, RowFault, Rows, Schema, Table, Transaction
 from .scripts import BadLine, Script
+from .versions import FORMATS, Format
 
 ODD_NUMBERS = [0, 1, 2, 7, 63, 64, 65, 255, 256, 257, 2**31, 2**32, 2**63, 2**64 - 1]
 SEATS = [1, 2, 3, 64]
@@ -32,7 +34,10 @@ STRAY_LINES = [
     *("close", "table t 1 pk 0", "row t 1", f"core {SOURCES[0]}", f"core {SOURCES[0]} -", "at", "at 0", "at 0 at 0 look", "at 0 end"),
     *("at 0 ---", " look", "look ", "--- ", "----", "channel X", "channel x preserved", f"at {2**64} look", "at 0 looks", "at 9 looks"),
     *("at 0 local x", "at 9 local x", "at 00 look", "position 0 0", "position 0 0 00", "receive 0 0 0", "position 0 0 0 0"),
+    *("version 3", "at 0 version 3", "fk t 0 t 0", "assume references", "place - 4 - 1", "channel x.", "channel %41"),
+    *(f"receive 0 {SOURCES[0]}:1 0 1", "channel X.1", "at 0 channel %20"),
 ]
+VERSION_LINES = ["version 1", "version 2", "version 3", "version 4", "version", "version ", "version 03", "version 3 3", "Version 3"]
 
 
 class EndOfScript(Exception):
@@ -95,11 +100,11 @@ def lines_of(word: str, changes: Transaction) -> list[str]:
 
 
 class EventMaker:
-    """Makes the lines of events and queries of a replica. Its transactions touch keys of these tags, but for wild ones."""
+    """Makes the lines of events and queries of a replica, by this version. Its transactions touch keys of these tags, but for wild ones."""
 
-    def __init__(self, bundles: BundleMaker, sources: list[str], tags: list[int]) -> None:
+    def __init__(self, bundles: BundleMaker, sources: list[str], tags: list[int], form: Format) -> None:
         self.bundles, self.chance, self.is_one_in = bundles, bundles.chance, bundles.is_one_in
-        self.sources, self.tags = sources, tags
+        self.sources, self.tags, self.form = sources, tags, form
 
     def weights(self, replica: Replica) -> dict[Callable[[Replica], list[str]], int]:
         """How often each event comes, by what the replica is ready for."""
@@ -150,7 +155,8 @@ class EventMaker:
     def channel(self, replica: Replica) -> list[str]:
         """OpenChannel."""
         word = self.chance.choice(["", "", " preserve"])
-        return [f"channel {self.chance.choice(CHANNEL_NAMES[:5] if self.is_one_in(2) else CHANNEL_NAMES)}{word}"]
+        names = CHANNEL_NAMES if self.form is FORMATS["1"] else [*CHANNEL_NAMES, *NAMES]
+        return [f"channel {self.chance.choice(names[:5] if self.is_one_in(2) else names)}{word}"]
 
     def position(self, replica: Replica) -> list[str]:
         """Position."""
@@ -213,10 +219,10 @@ class EventMaker:
     def misfit_change(self, tables: list[Table]) -> Change:
         """A change that the tables don't take."""
         if not tables or self.is_one_in(3):
-            return Change("nowhere", None, (1, None))
+            return Change("nowhere" if self.form is FORMATS["1"] or self.is_one_in(2) else "no.Where%20", None, (1, None))
         table = self.chance.choice(tables)
         image = self.bundles.image(table, None)
-        if table.columns < 64 and self.is_one_in(2):
+        if table.columns < self.form.columns and self.is_one_in(2):
             image = (*image, None)
         else:
             column = self.chance.choice(table.keys[0])
@@ -302,6 +308,7 @@ class ScriptMaker:
 
     def __init__(self, chance: Random) -> None:
         self.chance, self.bundles, self.teller, self.breaker = chance, BundleMaker(chance), Teller(), TextBreaker(chance)
+        self.widener = Widener(chance)
         self.is_one_in, self.say = self.bundles.is_one_in, self.teller.say
 
     def finished(self, make: Callable[[], None]) -> Made:
@@ -325,13 +332,25 @@ class ScriptMaker:
     def declare(self, last: str) -> None:
         """Says tables and opening rows, and the last declaration."""
         schema = Schema(t=Table("t", 2, ((0,), (1,)))) if self.is_one_in(2) else self.bundles.tables()
+        before = list[str]()
+        if self.is_one_in(2):
+            before, schema = ["version 3"], self.widener.schema(schema)
+        references = self.widener.references(schema) if before else []
         rows = Rows(schema)
         for table in schema.values():
             for _ in range(self.bundles.few(4)):
                 self.bundles.try_put(rows, table, self.bundles.few(3))
-        self.say_more([*(table.line() for table in schema.values()), *rows.lines(), last], between_faults=100)
+        tables = [*(table.line() for table in schema.values()), *(f"fk {it}" for it in references)]
+        lines = [*before, *tables, *rows.lines(is_whole=True), last]
+        if self.is_one_in(100):
+            lines.insert(self.chance.randrange(len(lines)), self.chance.choice([*VERSION_LINES, "version 3", *lines]))
+        self.say_more(lines, between_faults=100)
         if not self.teller.script.replica and not self.teller.script.network:
             raise EndOfScript
+
+    def events(self, sources: list[str], tags: list[int]) -> EventMaker:
+        """What makes events of these sources and tags, by the version that is declared."""
+        return EventMaker(self.bundles, sources, tags, self.teller.script.declared.form)
 
     def say_badly(self) -> None:
         """Says a line that is not in the language there, or one of before with a fault, or leaves a transaction open."""
@@ -374,7 +393,7 @@ class ScriptMaker:
         if self.is_one_in(60):
             self.teller.say_all(f"channel c{number}" for number in range(MOST_CHANNELS - self.bundles.few(1)))
             self.teller.say_all(["channel c1", "channel more", "channel more", "channel other", "channel c2 preserve"])
-        maker = EventMaker(self.bundles, sources[1:], [SHARED_TAG, SHARED_TAG, 1, 2])
+        maker = self.events(sources[1:], [SHARED_TAG, SHARED_TAG, 1, 2])
         for _ in range(self.chance.randint(20, 90)):
             self.say_more(maker.event(replica))
             if self.is_one_in(1500):
@@ -388,7 +407,7 @@ class ScriptMaker:
         self.teller.say_all(["table t 1 pk 0", f"core {SOURCES[0]} {full.word()}", "channel x", "position 0"])
         replica = self.teller.script.replica
         assert replica
-        maker = EventMaker(self.bundles, [*SOURCES[1:4], others[0]], [SHARED_TAG])
+        maker = self.events([*SOURCES[1:4], others[0]], [SHARED_TAG])
         kinds = [maker.receive, maker.receive, maker.take, maker.take, maker.commit, maker.commit, maker.local, maker.rollback]
         for _ in range(30):
             self.say_more(self.chance.choice(kinds)(replica))
@@ -425,7 +444,7 @@ class NetworkMaker:
         assert network
         is_apart = self.is_one_in(2)
         tags = [node + 1 if is_apart else SHARED_TAG for node in range(len(network.nodes))]
-        self.makers = [EventMaker(self.bundles, sources, [tag]) for tag in tags]
+        self.makers = [self.maker.events(sources, [tag]) for tag in tags]
         self.join(network)
         for _ in range(self.chance.randint(20, 70)):
             self.say_some(network)

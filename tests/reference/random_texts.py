@@ -21,7 +21,7 @@ ODD_WORDS = [
 REFERRED = ["cascade", "restrict", "0", "1", "2", "3", "4", "0,1", "1,0", "0,0"]
 ASSUMED = [
     *("references", "executed x", "checksums y", "checksums shop.orders", "ignored t", "ignored shop", "ignored shop.orders", "ignored a", "references x"),
-    *("executed", "ignored a b", "rows", "nothing", f"opening x {A}:1", f"statements x {A}:1", "", "references ", "ignored %41"),
+    *("executed", "ignored a b", "rows", "rows x", "nothing", f"opening x {A}:1", f"statements x {A}:1", "", "references ", "ignored %41"),
 ]
 ODD_BYTES = "-:, |0129abgxAZ_\t\r\x00\x7f\x80\xff\xc3\xa9"
 BLANKS = ["", "", "", "", " ", " ", "\t", "\n", "\r\n", "  "]

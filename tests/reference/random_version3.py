@@ -33,14 +33,33 @@ class Widener:
         names = dict(zip(narrow.schema, self.chance.sample(NAMES, len(narrow.schema))))
         wide = Bundle("3", narrow.replica, narrow.opening, Schema((names[it], self.table(table, names[it])) for it, table in narrow.schema.items()))
         wide.schema.most_bytes = 2**32 - 1
+        is_unknown = self.chance.randrange(4) == 0
         for key, row in narrow.rows.carriers.items():
-            if key.index == 0:
+            if key.index == 0 and not is_unknown:
                 wide.rows.put(names[key.table], row)
         wide.references = self.references(wide.schema)
         channels = self.chance.sample(NAMES, len(narrow.channels))
         wide.channels = [self.channel(it, name, names) for it, name in zip(narrow.channels, channels)]
-        wide.assumptions = self.assumptions(wide)
+        wide.assumptions = self.assumptions(wide, is_unknown)
         return wide
+
+    def schema(self, narrow: Schema) -> Schema:
+        """The tables by version 3, now and then beyond the limits of the earlier versions."""
+        names = self.chance.sample(NAMES, len(narrow))
+        wide = Schema((name, self.larger(self.table(it, name))) for name, it in zip(names, narrow.values()))
+        if self.chance.randrange(200) == 0:
+            wide.update((f"Many.{number}", Table(f"Many.{number}", 1, ((0,),))) for number in range(257))
+        wide.most_bytes = VERSION_3.most_bytes
+        return wide
+
+    def larger(self, table: Table) -> Table:
+        """A table, now and then with more columns or unique keys than the earlier versions have."""
+        match self.chance.randrange(60):
+            case 0:
+                return replace(table, columns=self.chance.choice([65, 65, 100, 4_096]))
+            case 1:
+                return replace(table, keys=table.keys + table.keys[:1] * (self.chance.choice([9, 65]) - len(table.keys)))
+        return table
 
     def table(self, table: Table, name: str) -> Table:
         """A table of another name, with hidden columns or without."""
@@ -72,9 +91,9 @@ class Widener:
                 made.append(f"{child.name} {columns} {parent.name} {key}" + self.chance.choice(["", " cascade"]))
         return made
 
-    def assumptions(self, bundle: Bundle) -> list[str]:
-        """Some assumptions that the bundle may have, of the words that are read."""
-        found = self.some(["references", *([] if bundle.rows.carriers else ["rows"])])
+    def assumptions(self, bundle: Bundle, is_unknown: bool) -> list[str]:
+        """Some assumptions that the bundle may have, of the words that are read; and `rows`, where the opening rows aren't known."""
+        found = [*self.some(["references"]), *(["rows"] if is_unknown else [])]
         found += [f"ignored {it}" for it in self.some([it for it in NAMES if it not in bundle.schema])]
         for channel in bundle.channels:
             found += [f"{word} {channel.name}" for word in self.some(["executed", "checksums"])]

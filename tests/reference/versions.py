@@ -17,8 +17,8 @@ COUNT_FORM = re.compile(r"0|[1-9][0-9]*")
 
 # The words of assumptions, in the order of their lines.
 ASSUMPTIONS = ("executed", "checksums", "opening", "statements", "ignored", "references", "rows")
-# (the programs read neither these nor the lines of places yet, so they are read here only where this variable is set)
-LATER_ASSUMPTIONS = {"opening", "statements", "rows"}
+# (the programs don't read these yet, so they are read here only where this variable is set)
+LATER_ASSUMPTIONS = {"statements"}
 IS_WHOLE = bool(os.environ.get("REFERENCE_VERSION_3"))
 
 
@@ -66,7 +66,7 @@ VERSION_3 = Format(
     references=65_536,
     assumptions=65_536,
     assumed=tuple(it for it in ASSUMPTIONS if IS_WHOLE or it not in LATER_ASSUMPTIONS),
-    has_places=IS_WHOLE,
+    has_places=True,
     has_hidden=True,
 )
 FORMATS = {it.version: it for it in (Format("1", has_opening=False, has_stamps=False), Format("2"), VERSION_3)}

@@ -5,10 +5,11 @@ use Rattle.lemmas.proofs.Lists.{all_push}
 use Rattle.gtid_set.specs.Sets.{Gtids}
 use Rattle.gtid_set.specs.declared.fault.SetFault.{SetFault}
 use Rattle.gtid_set.specs.declared.fault.SetFault.TheVariants.{Memory, PoolFull, SourcesFull}
+use Rattle.txn_journal.specs.BundleReading.{BundleProgress}
 use Rattle.txn_journal.specs.BundleReaders.{bundle_reading}
-use Rattle.txn_journal.specs.BundleStates.{BundleValue, BundleStanding}
+use Rattle.txn_journal.specs.BundleStates.{BundleValue}
 use Rattle.txn_journal.specs.BundleText.{preserve_text, WritesBundle}
-use Rattle.txn_journal.specs.Stream.{Progress, next_number}
+use Rattle.txn_journal.specs.Stream.{next_number}
 use Rattle.txn_journal.specs.Words.{BeginsWithLine}
 use Rattle.txn_journal.specs.declared.fault.JournalFault.{JournalFault}
 use Rattle.txn_journal.specs.declared.fault.JournalFault.TheVariants as faults
@@ -167,7 +168,7 @@ is_last left own behind (Nowhere e) parts first = inr (front_nil own behind (sym
 is_last left own behind (Last after e) parts first = inl (first (codes "done") after (done_begins left after e)).0
 
 -- what comes after the last line is refused, or that there is none
-pub end_refused : (grants : Grants) (start : BundleValue) (text left own behind : List ℕ) (p : ImportProgress) (q : Progress BundleStanding) (fault : JournalFault) (n : ℕ) → BeginsLast left → HasCome grants start text left p → left ≡ own ++ behind → SplitsFirst left own behind
+pub end_refused : (grants : Grants) (start : BundleValue) (text left own behind : List ℕ) (p : ImportProgress) (q : BundleProgress) (fault : JournalFault) (n : ℕ) → BeginsLast left → HasCome grants start text left p → left ≡ own ++ behind → SplitsFirst left own behind
     → ((before : List ℕ) → HasRead p before → IsFed q (before ++ own)) → ((before : List ℕ) → IsFed q before → IsRefused fault (before ++ behind)) → IsLineAt text behind n → IsNoOwn grants (fault_at_line fault n) text
 end_refused grants start text left own behind p q fault n last come parts first fed stops at =
     let fed_own = fed come.written come.fed in
@@ -301,7 +302,7 @@ module _ {grants : Grants} {start : BundleValue} {text left line after log behin
 
 -- ---- the whole
 
-pub end_found : (grants : Grants) (start : BundleValue) (text left own behind : List ℕ) (p : ImportProgress) (q : Progress BundleStanding) (b : BundleValue) → BeginsLast left → HasCome grants start text left p → left ≡ own ++ behind
+pub end_found : (grants : Grants) (start : BundleValue) (text left own behind : List ℕ) (p : ImportProgress) (q : BundleProgress) (b : BundleValue) → BeginsLast left → HasCome grants start text left p → left ≡ own ++ behind
     → ((before : List ℕ) → HasRead p before → IsFed q (before ++ own)) → ((before : List ℕ) → IsFed q before → WritesBundle (before ++ behind) b) → IsDescribed grants text b p.executed.items p.notes.items
 end_found grants start text left own behind p q b last come parts fed writes = record {
   channels = come.channels;

@@ -3,7 +3,7 @@ use Rattle.std.proofs.Common.{◌≡◌, ℕ, suc, ◌+◌, ◌≤◌, Bool, tru
 use Rattle.std.specs.Prelude.{MatchResult}
 use Rattle.std.specs.List.{flat_map, list_all, AllByRecursion}
 use Rattle.std.proofs.lemmas.Bool.{and_parts}
-use Rattle.std.proofs.lemmas.List.{append_cancel_right}
+use Rattle.std.proofs.lemmas.List.{append_cancel_right, map-append}
 use Rattle.std.proofs.lemmas.Slice.Eq.{starts_is}
 use Rattle.std.proofs.lemmas.Bool.Decides.{Decides-eqb}
 use Rattle.lemmas.proofs.Tests.{false_from_not}
@@ -14,11 +14,12 @@ use Rattle.rows.specs.declared.schema.Table.{Table}
 use Rattle.journal.specs.Journals.{JournalValue}
 use Rattle.txn_journal.specs.BundleLinesSoFar.{bundle_lines_so_far_at}
 use Rattle.txn_journal.specs.BundleStates.{BundleValue, BundleStanding, is_done, judge_bundle, no_bundle}
-use Rattle.txn_journal.specs.BundleText.{BundleLine, Own, Inner, Heads, Names, Starts, Has, Refers, Puts, Opens, Assumes, Done, bundle_line_text, ended_bundle_line, bundle_text, bundle_front, channel_lines, channels_lines, start_lines, table_lines, reference_lines, row_lines, assumption_lines, opening_set_lines, WritesBundle}
+use Rattle.txn_journal.specs.BundleText.{BundleLine, Own, Inner, Heads, Names, Starts, Has, Refers, Puts, Opens, Assumes, Done, bundle_line_text, bundle_front, channel_lines, channels_lines, start_lines, table_lines, reference_lines, row_lines, assumption_lines, opening_set_lines, WritesBundle}
 use Rattle.txn_journal.specs.declared.references.Reference.{Reference}
 use Rattle.txn_journal.specs.declared.assumptions.Assumption.{Assumption}
 use Rattle.txn_journal.specs.BundleCauses.{HasBundleCause}
-use Rattle.txn_journal.specs.BundleReading.{bundles}
+use Rattle.txn_journal.specs.BundleReading.{plain_bundles}
+use Rattle.txn_journal.specs.Places.{place_text, PlacedLine, AtPlace, Plain, without_places, placed_text, text_with_places, text_without_places, StandBeforeEntries}
 use Rattle.txn_journal.specs.Spelling.{Line, Header, Previous, Begin, Makes, End, Close, ended_line, lines_text, front_lines, journal_lines, spelling_as}
 use Rattle.txn_journal.specs.Stamps.{all_stamps}
 use Rattle.txn_journal.specs.Words.{IsOneLine}
@@ -28,9 +29,8 @@ use Rattle.txn_journal.specs.declared.bundle_draft.Part.TheVariants as parts
 use Rattle.txn_journal.specs.declared.fault.Cause.{Cause}
 use Rattle.txn_journal.specs.declared.lines.Version.{Version}
 use Rattle.txn_journal.specs.declared.lines.Version.TheVariants.{One, Two, Three}
-use Rattle.txn_journal.proofs.FormatLaws.{OneMore, runs}
-use Rattle.txn_journal.proofs.BundleLaws.{reads_bundle, IsSoundBundle, bundle_laws}
-use Rattle.txn_journal.proofs.Judged.{bind_ok, ok_is}
+use Rattle.txn_journal.proofs.FormatLaws.{same_texts, lines_read}
+use Rattle.txn_journal.proofs.BundleLaws.{IsSoundPlain, plain_bundle_laws}
 use Rattle.txn_journal.specs.declared.lines.Due.TheVariants.{Any}
 use Rattle.binlog_entries.proofs.TransactionLaws.{flat_map_more}
 use Rattle.binlog_bundle.specs.Lines.{with_line_feed, is_channel}
@@ -67,13 +67,15 @@ behind_feed true (x ∷ xs) ys =
     omega (arith, h, e)
 behind_feed false (x ∷ xs) ys = behind_feed (eqb x 10) xs ys
 
-behind_lines : (ls : List BundleLine) (ys : List ℕ) → lines_with true ys ≤ lines_with true (bundle_text ls ++ ys)
+behind_lines : (ls : List (PlacedLine BundleLine)) (ys : List ℕ) → lines_with true ys ≤ lines_with true (text_with_places bundle_line_text ls ++ ys)
 behind_lines [] ys = omega arith
 behind_lines (l ∷ ls) ys =
+    let text = placed_text bundle_line_text l in
+    let rest = text_with_places bundle_line_text ls in
     let h = behind_lines ls ys in
-    let k = behind_feed true (bundle_line_text l) (bundle_text ls ++ ys) in
-    let e = append_assoc (bundle_line_text l ++ 10 ∷ []) (bundle_text ls) ys ∙ append_assoc (bundle_line_text l) (10 ∷ []) (bundle_text ls ++ ys) in
-    let m : lines_with true ys ≤ lines_with true (bundle_line_text l ++ 10 ∷ (bundle_text ls ++ ys)) = omega (arith, h, k) in
+    let k = behind_feed true text (rest ++ ys) in
+    let e = append_assoc (text ++ 10 ∷ []) rest ys ∙ append_assoc text (10 ∷ []) (rest ++ ys) in
+    let m : lines_with true ys ≤ lines_with true (text ++ 10 ∷ (rest ++ ys)) = omega (arith, h, k) in
     subst (λ (xs : List ℕ). lines_with true ys ≤ lines_with true xs) (sym e) m
 
 -- ---- channels that are written
@@ -114,15 +116,6 @@ channels_count grants plain (c ∷ cs) ys all =
     let k = channel_counts c.own c.journal (flat_map journal_text cs ++ ys) own.0 own.1 behind in
     let m : suc (length cs) ≤ lines_with true (journal_text c ++ (flat_map journal_text cs ++ ys)) = omega (arith, h, k) in
     subst (λ (xs : List ℕ). suc (length cs) ≤ lines_with true xs) (sym (append_assoc (journal_text c) (flat_map journal_text cs) ys)) m
-
--- ---- the plain head
-
-plain_lines : (plain : List ℕ) (start : BundleValue) → IsStart plain start → (ls : List BundleLine) × (plain ≡ bundle_text ls)
-plain_lines plain start (version, takes, h) =
-    let front = bundle_front version h.rows (all_stamps version start.start.schema start.journals) start in
-    let assumed = assumption_lines start.assumptions in
-    let last : List BundleLine = Own Done ∷ [] in
-    (front ++ assumed, append_cancel_right plain (bundle_text (front ++ assumed)) done_line (h.text ∙ ap bundle_text (sym (append_assoc front assumed last)) ∙ flat_map_more ended_bundle_line (front ++ assumed) (Own Done)))
 
 -- ---- lines of a bundle
 
@@ -181,14 +174,25 @@ one_line_counts (b ∷ bs) ys one =
     let p = and_parts (not (eqb b 10)) (list_all (λ x. not (eqb x 10)) bs) one in
     ap (λ (k : ℕ). counted (is_channel ((b ∷ bs) ++ 10 ∷ ys)) + k) (ap (λ (v : Bool). lines_with v (bs ++ 10 ∷ ys)) (false_from_not (eqb b 10) p.0) ∙ within_line bs ys p.1)
 
-text_counts : (ls : List BundleLine) → AllByRecursion IsOneLine (map bundle_line_text ls) → lines_with true (bundle_text ls) ≤ opened ls
-text_counts [] whole = least 0
-text_counts (l ∷ ls) whole =
-    let h = text_counts ls whole.1 in
-    let k = other_begins l (bundle_text ls) in
-    let e = one_line_counts (bundle_line_text l) (bundle_text ls) whole.0 in
-    let m : lines_with true (bundle_line_text l ++ 10 ∷ bundle_text ls) ≤ opens l + opened ls = omega (arith, h, k, e) in
-    subst (λ (xs : List ℕ). lines_with true xs ≤ opens l + opened ls) (sym (append_assoc (bundle_line_text l) (10 ∷ []) (bundle_text ls))) m
+-- places are no lines of channels
+placed_counts : (ls : List (PlacedLine BundleLine)) (ks : List BundleLine) → AllByRecursion (λ l. IsOneLine (placed_text bundle_line_text l)) ls → map bundle_line_text (without_places ls) ≡ map bundle_line_text ks → lines_with true (text_with_places bundle_line_text ls) ≤ opened ks
+placed_counts [] ks whole same = least (opened ks)
+placed_counts (AtPlace p ∷ ls) ks whole same =
+    let rest = text_with_places bundle_line_text ls in
+    let h = placed_counts ls ks whole.1 same in
+    let e : lines_with true (place_text p ++ 10 ∷ rest) ≡ 0 + lines_with true rest = one_line_counts (place_text p) rest whole.0 in
+    let m : lines_with true (place_text p ++ 10 ∷ rest) ≤ opened ks = omega (arith, h, e) in
+    subst (λ (xs : List ℕ). lines_with true xs ≤ opened ks) (sym (append_assoc (place_text p) (10 ∷ []) rest)) m
+placed_counts (Plain l ∷ ls) [] whole same = absurd cc
+placed_counts (Plain l ∷ ls) (k ∷ ks) whole same =
+    let rest = text_with_places bundle_line_text ls in
+    let same_text : bundle_line_text l ≡ bundle_line_text k = cc in
+    let same_rest : map bundle_line_text (without_places ls) ≡ map bundle_line_text ks = cc in
+    let h = placed_counts ls ks whole.1 same_rest in
+    let b = subst (λ (xs : List ℕ). counted (is_channel (xs ++ 10 ∷ rest)) ≤ opens k) (sym same_text) (other_begins k rest) in
+    let e = one_line_counts (bundle_line_text l) rest whole.0 in
+    let m : lines_with true (bundle_line_text l ++ 10 ∷ rest) ≤ opens k + opened ks = omega (arith, h, b, e) in
+    subst (λ (xs : List ℕ). lines_with true xs ≤ opens k + opened ks) (sym (append_assoc (bundle_line_text l) (10 ∷ []) rest)) m
 
 -- ---- the lines of a whole bundle
 
@@ -264,47 +268,107 @@ opened_last parts.Assumptions rows s e = absurd cc
 
 -- ---- lines that are read
 
--- lines with these texts, which are known of what has been made
-record AreRead (texts : List (List ℕ)) (old : List BundleLine) (t : BundleStanding) : Type 0 where
-  pub lines : List BundleLine
-  pub texts_are : map bundle_line_text lines ≡ texts
-  pub sound : IsSoundBundle Any t (old ++ lines)
-
-lines_read : (texts : List (List ℕ)) (s t : BundleStanding) (old : List BundleLine) → IsSoundBundle Any s old → runs judge_bundle s texts ≡ Ok t → AreRead texts old t
-lines_read [] s t old sound e = record {
-  lines = [];
-  texts_are = refl;
-  sound = subst (λ (ls : List BundleLine). IsSoundBundle Any t ls) (sym (append-nil old)) (subst (λ (u : BundleStanding). IsSoundBundle Any u old) (ok_is s t e) sound);
-}
-lines_read (x ∷ xs) s t old sound e =
-    let a = bind_ok (judge_bundle s x) (λ u. runs judge_bundle u xs) t e in
-    let P : Result BundleStanding Cause → Type 0 = λ r. MatchResult r (OneMore (bundles Any) (IsSoundBundle Any) old x) (HasBundleCause s x) in
-    let one = subst P a.1 ((bundle_laws Any).judges s old x sound) in
-    let more = lines_read xs a.0 t (old ++ one.l ∷ []) one.sound a.2 in
-    record {
-      lines = one.l ∷ more.lines;
-      texts_are = (λ i. sym one.text i ∷ more.texts_are i);
-      sound = subst (λ (ls : List BundleLine). IsSoundBundle Any t ls) (append_assoc old (one.l ∷ []) more.lines) more.sound;
-    }
-
-texts_of : (ls : List BundleLine) → bundle_text ls ≡ flat_map with_line_feed (map bundle_line_text ls)
-texts_of [] = refl
-texts_of (l ∷ ls) = ap (λ (xs : List ℕ). with_line_feed (bundle_line_text l) ++ xs) (texts_of ls)
-
 whole_texts : (ls : List BundleLine) → AllByRecursion (λ l. IsOneLine (bundle_line_text l)) ls → AllByRecursion IsOneLine (map bundle_line_text ls)
 whole_texts [] all = tt
 whole_texts (l ∷ ls) all = (all.0, whole_texts ls all.1)
 
+-- the lines of a text without its places, which have made the bundle
+record AreMade (ls : List (PlacedLine BundleLine)) (b : BundleValue) : Type 0 where
+  lines : List BundleLine
+  texts_are : map bundle_line_text (without_places ls) ≡ map bundle_line_text lines
+  front : List BundleLine
+  last : lines ≡ front ++ Own Done ∷ []
+  few : opened lines ≤ length b.journals
+
+last_lines : (part : Part) (rows : List TableRow) (s : BundleStanding) → is_done part ≡ true → (front : List BundleLine) × (bundle_lines_so_far_at part rows s ≡ front ++ Own Done ∷ [])
+last_lines parts.Ended rows s e =
+    let before = bundle_front s.version rows (all_stamps s.version s.bundle.start.schema s.bundle.journals) s.bundle in
+    (before ++ assumption_lines s.bundle.assumptions, sym (append_assoc before (assumption_lines s.bundle.assumptions) (Own Done ∷ [])))
+last_lines part rows s e = absurd cc
+
+whole_plain : (ls : List (PlacedLine BundleLine)) → AllByRecursion (λ l. IsOneLine (placed_text bundle_line_text l)) ls → AllByRecursion (λ l. IsOneLine (bundle_line_text l)) (without_places ls)
+whole_plain [] whole = tt
+whole_plain (AtPlace p ∷ ls) whole = whole_plain ls whole.1
+whole_plain (Plain l ∷ ls) whole = (whole.0, whole_plain ls whole.1)
+
+are_made : (bytes : List ℕ) (b : BundleValue) (w : WritesBundle bytes b) → AreMade w.lines b
+are_made bytes b w =
+    let r = (plain_bundle_laws Any).reads (text_without_places bundle_line_text w.lines) b w.written in
+    let whole = whole_texts r.lines r.leads.whole in
+    let are = lines_read (plain_bundles Any) (IsSoundPlain Any) (plain_bundle_laws Any) (map bundle_line_text r.lines) (no_bundle Any) r.last [] ((plain_bundle_laws Any).starts) whole r.leads.run in
+    let same = same_texts bundle_line_text (without_places w.lines) r.lines (whole_plain w.lines w.fit.whole) r.leads.whole r.parts in
+    let last = last_lines r.last.part are.sound.1.0 r.last r.done in
+    let most = subst (λ (ls : List BundleLine). opened ls ≤ length r.last.bundle.journals) are.sound.1.1 (opened_last r.last.part are.sound.1.0 r.last r.done) in
+    record {
+      lines = are.lines;
+      texts_are = sym same ∙ sym are.texts_are;
+      front = last.0;
+      last = sym are.sound.1.1 ∙ last.1;
+      few = subst (λ (v : BundleValue). opened are.lines ≤ length v.journals) r.value most;
+    }
+
 journals_counted : (bytes : List ℕ) (b : BundleValue) → WritesBundle bytes b → lines_with true bytes ≤ length b.journals
 journals_counted bytes b w =
-    let r = reads_bundle Any bytes b w in
-    let are = lines_read (map bundle_line_text r.lines) (no_bundle Any) r.last [] ((bundle_laws Any).starts) r.leads.run in
-    let whole = subst (AllByRecursion IsOneLine) (sym are.texts_are) (whole_texts r.lines r.leads.whole) in
-    let same : bytes ≡ bundle_text are.lines = r.parts ∙ texts_of r.lines ∙ ap (flat_map with_line_feed) (sym are.texts_are) ∙ sym (texts_of are.lines) in
-    let count = text_counts are.lines whole in
-    let most = subst (λ (ls : List BundleLine). opened ls ≤ length r.last.bundle.journals) are.sound.1.1 (opened_last r.last.part are.sound.1.0 r.last r.done) in
-    let P : BundleValue → Type 0 = λ v. lines_with true bytes ≤ length v.journals in
-    subst P r.value (subst (λ (xs : List ℕ). lines_with true xs ≤ length r.last.bundle.journals) (sym same) (omega (arith, count, most)))
+    let made = are_made bytes b w in
+    let count = placed_counts w.lines made.lines w.fit.whole made.texts_are in
+    let few = made.few in
+    subst (λ (xs : List ℕ). lines_with true xs ≤ length b.journals) (sym w.parts) (omega (arith, count, few))
+
+-- ---- the plain head
+
+none_plain : (ls : List (PlacedLine BundleLine)) → without_places ls ≡ [] → StandBeforeEntries bundle_line_text false false ls → ls ≡ []
+none_plain [] none stand = refl
+none_plain (AtPlace p ∷ []) none stand = absurd (let k = stand.1 in cc)
+none_plain (AtPlace p ∷ AtPlace q ∷ ls) none stand = absurd stand.1
+none_plain (AtPlace p ∷ Plain l ∷ ls) none stand = absurd cc
+none_plain (Plain l ∷ ls) none stand = absurd cc
+
+none_mapped : (ls : List BundleLine) → map bundle_line_text ls ≡ [] → ls ≡ []
+none_mapped [] e = refl
+none_mapped (l ∷ ls) e = absurd cc
+
+-- the last line is no place
+record EndsWith (ls : List (PlacedLine BundleLine)) (text : List ℕ) : Type 0 where
+  front : List (PlacedLine BundleLine)
+  last : BundleLine
+  parts : ls ≡ front ++ Plain last ∷ []
+  is : bundle_line_text last ≡ text
+
+one_before : (l : PlacedLine BundleLine) (ls : List (PlacedLine BundleLine)) (text : List ℕ) → EndsWith ls text → EndsWith (l ∷ ls) text
+one_before l ls text h = record { front = l ∷ h.front; last = h.last; parts = ap (λ (xs : List (PlacedLine BundleLine)). l ∷ xs) h.parts; is = h.is }
+
+ends_with : (before : Bool) (ls : List (PlacedLine BundleLine)) (xs : List BundleLine) (text : List ℕ) → StandBeforeEntries bundle_line_text before false ls → map bundle_line_text (without_places ls) ≡ map bundle_line_text xs ++ text ∷ [] → EndsWith ls text
+ends_with before [] [] text stand same = absurd cc
+ends_with before [] (x ∷ xs) text stand same = absurd cc
+ends_with true (AtPlace p ∷ ls) xs text stand same = absurd stand
+ends_with false (AtPlace p ∷ ls) xs text stand same = one_before (AtPlace p) ls text (ends_with true ls xs text stand.1 same)
+ends_with true (Plain l ∷ ls) [] text stand same =
+    let is : bundle_line_text l ≡ text = cc in
+    let rest : map bundle_line_text (without_places ls) ≡ [] = cc in
+    record { front = []; last = l; parts = ap (λ (xs : List (PlacedLine BundleLine)). Plain l ∷ xs) (none_plain ls (none_mapped (without_places ls) rest) stand.1); is = is }
+ends_with false (Plain l ∷ ls) [] text stand same =
+    let is : bundle_line_text l ≡ text = cc in
+    let rest : map bundle_line_text (without_places ls) ≡ [] = cc in
+    record { front = []; last = l; parts = ap (λ (xs : List (PlacedLine BundleLine)). Plain l ∷ xs) (none_plain ls (none_mapped (without_places ls) rest) stand); is = is }
+ends_with true (Plain l ∷ ls) (x ∷ xs) text stand same =
+    let rest : map bundle_line_text (without_places ls) ≡ map bundle_line_text xs ++ text ∷ [] = cc in
+    one_before (Plain l) ls text (ends_with false ls xs text stand.1 rest)
+ends_with false (Plain l ∷ ls) (x ∷ xs) text stand same =
+    let rest : map bundle_line_text (without_places ls) ≡ map bundle_line_text xs ++ text ∷ [] = cc in
+    one_before (Plain l) ls text (ends_with false ls xs text stand rest)
+
+plain_lines : (plain : List ℕ) (start : BundleValue) → IsStart plain start → (ls : List (PlacedLine BundleLine)) × (plain ≡ text_with_places bundle_line_text ls)
+plain_lines plain start w =
+    let made = are_made (plain ++ done_line) start w in
+    let same : map bundle_line_text (without_places w.lines) ≡ map bundle_line_text made.front ++ codes "done" ∷ [] = made.texts_are ∙ ap (map bundle_line_text) made.last ∙ map-append bundle_line_text made.front (Own Done ∷ []) in
+    let end = ends_with false w.lines made.front (codes "done") w.fit.stand same in (
+      end.front,
+      append_cancel_right plain (text_with_places bundle_line_text end.front) done_line (
+          w.parts ∙ ap (text_with_places bundle_line_text) end.parts
+          ∙ flat_map_more (λ l. placed_text bundle_line_text l ++ 10 ∷ []) end.front (Plain end.last)
+          ∙ ap (λ (xs : List ℕ). text_with_places bundle_line_text end.front ++ (xs ++ 10 ∷ [])) end.is
+          ),
+    )
 
 pub as_many_journals : (grants : Grants) (plain : List ℕ) (cs : List ImportedLog) (tail : List ℕ) (b : BundleValue) → AllByRecursion (IsImported grants plain) cs → WritesBundle ((plain ++ flat_map journal_text cs) ++ tail) b → length cs ≤ length b.journals
 as_many_journals grants plain [] tail b all w = least (length b.journals)

@@ -4,50 +4,60 @@ use Rattle.std.specs.Prelude.{OnOk, IfOk, IfErr}
 use Rattle.gtid_set.specs.declared.fault.SetFault.{SetFault}
 use Rattle.gtid_set.specs.declared.fault.SetFault.TheVariants.{PoolFull, SourcesFull}
 use Rattle.gtid_set.proofs.FaultLemmas.{fault_map}
-use Rattle.txn_journal.specs.BundleStates.{BundleValue, BundleStanding, judge_bundle, IsFullBundle}
-use Rattle.txn_journal.specs.BundleReading.{bundles, bundle_start, feed_bundle_bytes, closing_bundle, IsFaultOfBundle}
+use Rattle.txn_journal.specs.BundleStates.{BundleValue, BundleStanding}
+use Rattle.txn_journal.specs.declared.placed.Placed.{Placed}
+use Rattle.txn_journal.specs.BundleReading.{bundles, BundleProgress, bundle_start, feed_bundle_bytes, closing_bundle, IsFaultOfBundle}
 use Rattle.txn_journal.specs.BundleRefused.{RefusesBundle}
 use Rattle.txn_journal.specs.BundleText.{WritesBundle}
 use Rattle.txn_journal.specs.Formats.{FeedsBy, closing_by}
-use Rattle.txn_journal.specs.Stream.{Progress, Reading, Stopped, next_number, progress_after, feed_byte, feed_bytes, answer, HasFull, Fills, IsPieceFault, IsWhole}
+use Rattle.txn_journal.specs.Stream.{Reading, Stopped, next_number, progress_after, feed_byte, feed_bytes, answer, HasFull, Fills, IsPieceFault, IsWhole}
 use Rattle.txn_journal.specs.declared.fault.Cause.{Cause}
 use Rattle.txn_journal.specs.declared.fault.JournalFault.{JournalFault}
 use Rattle.txn_journal.specs.declared.fault.JournalFault.TheVariants as faults
 use Rattle.txn_journal.proofs.Pieces.{eats_append, stopped_stays}
 use Rattle.txn_journal.proofs.FormatLaws.{is_found, is_refused}
-use Rattle.txn_journal.proofs.BundleLaws.{IsSoundBundle, bundle_laws}
+use Rattle.txn_journal.proofs.BundlePlaces.{IsSoundBundle, bundle_laws}
 use Rattle.txn_journal.specs.declared.lines.Due.TheVariants.{Any}
 use Rattle.binlog_bundle.specs.Refused.{GoesOn, IsFed, IsTaken, StopsAt, IsRefused}
 
 -- ---- the fold over the bytes
 
-abbrev read : List ℕ → Progress BundleStanding
+abbrev Made : Type 0
+Made = Placed BundleStanding
+
+abbrev judge_text : Made → List ℕ → Result Made Cause
+judge_text = (bundles Any).judge
+
+abbrev IsFullText : SetFault → Made → Type 0
+IsFullText = (bundles Any).IsFull
+
+abbrev read : List ℕ → BundleProgress
 read bytes = feed_bundle_bytes (bundle_start Any) bytes
 
 read_more : (xs ys : List ℕ) → read (xs ++ ys) ≡ feed_bundle_bytes (read xs) ys
-read_more xs ys = eats_append judge_bundle (bundle_start Any) xs ys
+read_more xs ys = eats_append judge_text (bundle_start Any) xs ys
 
 -- a line is refused, and not that there is none
-last_byte : (v : Bool) (r : Result BundleStanding Cause) (s : BundleStanding) (k m n : ℕ) (rest : List ℕ) → cond v (progress_after r m) (Reading s k rest) ≡ Stopped (faults.Truncated n) → ⊥
+last_byte : (v : Bool) (r : Result Made Cause) (s : Made) (k m n : ℕ) (rest : List ℕ) → cond v (progress_after r m) (Reading s k rest) ≡ Stopped (faults.Truncated n) → ⊥
 last_byte true (Ok t) s k m n rest e = cc
 last_byte true (Err c) s k m n rest e = cc
 last_byte false r s k m n rest e = cc
 
-byte_not_short : (p : Progress BundleStanding) (b n : ℕ) → ((m : ℕ) → p ≡ Stopped (faults.Truncated m) → ⊥) → feed_byte judge_bundle p b ≡ Stopped (faults.Truncated n) → ⊥
+byte_not_short : (p : BundleProgress) (b n : ℕ) → ((m : ℕ) → p ≡ Stopped (faults.Truncated m) → ⊥) → feed_byte judge_text p b ≡ Stopped (faults.Truncated n) → ⊥
 unfolding feed_byte
 byte_not_short (Stopped fault) b n not e = not n e
-byte_not_short (Reading s k rest) b n not e = last_byte (eqb b 10) (judge_bundle s rest) s k (next_number k) n (rest ++ b ∷ []) e
+byte_not_short (Reading s k rest) b n not e = last_byte (eqb b 10) (judge_text s rest) s k (next_number k) n (rest ++ b ∷ []) e
 
-not_short : (bytes : List ℕ) (p : Progress BundleStanding) (n : ℕ) → ((m : ℕ) → p ≡ Stopped (faults.Truncated m) → ⊥) → feed_bytes judge_bundle p bytes ≡ Stopped (faults.Truncated n) → ⊥
+not_short : (bytes : List ℕ) (p : BundleProgress) (n : ℕ) → ((m : ℕ) → p ≡ Stopped (faults.Truncated m) → ⊥) → feed_bytes judge_text p bytes ≡ Stopped (faults.Truncated n) → ⊥
 not_short [] p n not e = not n e
-not_short (b ∷ bs) p n not e = not_short bs (feed_byte judge_bundle p b) n (λ m. byte_not_short p b m not) e
+not_short (b ∷ bs) p n not e = not_short bs (feed_byte judge_text p b) n (λ m. byte_not_short p b m not) e
 
 not_short_yet : (m : ℕ) → bundle_start Any ≡ Stopped (faults.Truncated m) → ⊥
 not_short_yet m e = cc
 
 -- ---- sets that are full
 
-fills_more : (large : BundleStanding → Type 0) (xs ys : List ℕ) → Fills large judge_bundle (bundle_start Any) xs → Fills large judge_bundle (bundle_start Any) (xs ++ ys)
+fills_more : (large : Made → Type 0) (xs ys : List ℕ) → Fills large judge_text (bundle_start Any) xs → Fills large judge_text (bundle_start Any) (xs ++ ys)
 fills_more large xs ys k = record {
   front = k.front;
   rest = k.rest ++ ys;
@@ -55,19 +65,19 @@ fills_more large xs ys k = record {
   is_full = k.is_full;
 }
 
-fills_behind : (large : BundleStanding → Type 0) (xs ys : List ℕ) (p : Progress BundleStanding) → p ≡ read xs → Fills large judge_bundle p ys → Fills large judge_bundle (bundle_start Any) (xs ++ ys)
+fills_behind : (large : Made → Type 0) (xs ys : List ℕ) (p : BundleProgress) → p ≡ read xs → Fills large judge_text p ys → Fills large judge_text (bundle_start Any) (xs ++ ys)
 fills_behind large xs ys p is k = record {
   front = xs ++ k.front;
   rest = k.rest;
   parts = ap (λ (zs : List ℕ). xs ++ zs) k.parts ∙ sym (append_assoc xs k.front k.rest);
-  is_full = subst (HasFull large) (sym (read_more xs k.front ∙ ap (λ (q : Progress BundleStanding). feed_bundle_bytes q k.front) (sym is))) k.is_full;
+  is_full = subst (HasFull large) (sym (read_more xs k.front ∙ ap (λ (q : BundleProgress). feed_bundle_bytes q k.front) (sym is))) k.is_full;
 }
 
 full_more : (fault : SetFault) (xs ys : List ℕ) → IsFaultOfBundle (bundle_start Any) xs fault → IsFaultOfBundle (bundle_start Any) (xs ++ ys) fault
-full_more fault xs ys h = fault_map fault (fills_more (IsFullBundle SourcesFull) xs ys) (fills_more (IsFullBundle PoolFull) xs ys) h
+full_more fault xs ys h = fault_map fault (fills_more (IsFullText SourcesFull) xs ys) (fills_more (IsFullText PoolFull) xs ys) h
 
-full_behind : (fault : SetFault) (xs ys : List ℕ) (p : Progress BundleStanding) → p ≡ read xs → IsPieceFault IsFullBundle judge_bundle p ys fault → IsFaultOfBundle (bundle_start Any) (xs ++ ys) fault
-full_behind fault xs ys p is h = fault_map fault (fills_behind (IsFullBundle SourcesFull) xs ys p is) (fills_behind (IsFullBundle PoolFull) xs ys p is) h
+full_behind : (fault : SetFault) (xs ys : List ℕ) (p : BundleProgress) → p ≡ read xs → IsPieceFault IsFullText judge_text p ys fault → IsFaultOfBundle (bundle_start Any) (xs ++ ys) fault
+full_behind fault xs ys p is h = fault_map fault (fills_behind (IsFullText SourcesFull) xs ys p is) (fills_behind (IsFullText PoolFull) xs ys p is) h
 
 -- ---- what is refused
 
@@ -79,7 +89,7 @@ closed_is (faults.Set fault) bytes h = refuses (faults.Set fault) bytes h
 closed_is (faults.Line n cause) bytes h = (refuses (faults.Line n cause) bytes h, sym h)
 closed_is (faults.Truncated n) bytes h = (refuses (faults.Truncated n) bytes h, sym h)
 
-closing_stopped : (fault : JournalFault) (p : Progress BundleStanding) → p ≡ Stopped fault → (let r : Result BundleValue JournalFault = Err fault in r) ≡ closing_bundle p
+closing_stopped : (fault : JournalFault) (p : BundleProgress) → p ≡ Stopped fault → (let r : Result BundleValue JournalFault = Err fault in r) ≡ closing_bundle p
 unfolding closing_by
 closing_stopped fault p e = sym (ap closing_bundle e)
 
@@ -92,14 +102,14 @@ stops_at (faults.Truncated n) bytes e = not_short bytes (bundle_start Any) n not
 pub refused_more : (fault : JournalFault) (xs ys : List ℕ) → StopsAt fault xs → IsRefused fault (xs ++ ys)
 refused_more (faults.Set fault) xs ys h = full_more fault xs ys h
 refused_more (faults.Line n cause) xs ys h =
-    let stays = read_more xs ys ∙ ap (λ (p : Progress BundleStanding). feed_bundle_bytes p ys) h.1 ∙ stopped_stays judge_bundle (faults.Line n cause) ys in
+    let stays = read_more xs ys ∙ ap (λ (p : BundleProgress). feed_bundle_bytes p ys) h.1 ∙ stopped_stays judge_text (faults.Line n cause) ys in
     closed_is (faults.Line n cause) (xs ++ ys) (closing_stopped (faults.Line n cause) (read (xs ++ ys)) stays)
 refused_more (faults.Truncated n) xs ys h = absurd h
 
 pub stops_more : (fault : JournalFault) (xs ys : List ℕ) → StopsAt fault xs → StopsAt fault (xs ++ ys)
 stops_more (faults.Set fault) xs ys h = full_more fault xs ys h
 stops_more (faults.Line n cause) xs ys h =
-    stops_at (faults.Line n cause) (xs ++ ys) (read_more xs ys ∙ ap (λ (p : Progress BundleStanding). feed_bundle_bytes p ys) h.1 ∙ stopped_stays judge_bundle (faults.Line n cause) ys)
+    stops_at (faults.Line n cause) (xs ++ ys) (read_more xs ys ∙ ap (λ (p : BundleProgress). feed_bundle_bytes p ys) h.1 ∙ stopped_stays judge_text (faults.Line n cause) ys)
 stops_more (faults.Truncated n) xs ys h = absurd h
 
 pub refused_all : (fault : JournalFault) (bytes : List ℕ) → StopsAt fault bytes → IsRefused fault bytes
@@ -109,29 +119,29 @@ refused_all (faults.Truncated n) bytes h = absurd h
 
 -- ---- one piece
 
-fed_next : (before piece : List ℕ) (old : Progress BundleStanding) → old ≡ read before → feed_bundle_bytes old piece ≡ read (before ++ piece)
-fed_next before piece old fed = ap (λ (p : Progress BundleStanding). feed_bundle_bytes p piece) fed ∙ sym (read_more before piece)
+fed_next : (before piece : List ℕ) (old : BundleProgress) → old ≡ read before → feed_bundle_bytes old piece ≡ read (before ++ piece)
+fed_next before piece old fed = ap (λ (p : BundleProgress). feed_bundle_bytes p piece) fed ∙ sym (read_more before piece)
 
-goes_on : (u : Unit {0}) (p : Progress BundleStanding) → (let r : Result (Unit {0}) JournalFault = Ok u in r) ≡ answer p → GoesOn p
+goes_on : (u : Unit {0}) (p : BundleProgress) → (let r : Result (Unit {0}) JournalFault = Ok u in r) ≡ answer p → GoesOn p
 goes_on u (Reading s n rest) e = tt
 goes_on u (Stopped fault) e = absurd cc
 
-has_stopped : (fault : JournalFault) (p : Progress BundleStanding) → (let r : Result (Unit {0}) JournalFault = Err fault in r) ≡ answer p → p ≡ Stopped fault
+has_stopped : (fault : JournalFault) (p : BundleProgress) → (let r : Result (Unit {0}) JournalFault = Err fault in r) ≡ answer p → p ≡ Stopped fault
 has_stopped fault (Reading s n rest) e = absurd cc
 has_stopped fault (Stopped other) e = let same : fault ≡ other = cc in ap (λ (f : JournalFault). Stopped f) (sym same)
 
-pub start_fed : (p : Progress BundleStanding) → p ≡ bundle_start Any → IsFed p []
+pub start_fed : (p : BundleProgress) → p ≡ bundle_start Any → IsFed p []
 start_fed p e = (e, subst GoesOn (sym e) tt)
 
-pub is_taken : (bytes : List ℕ) (p : Progress BundleStanding) → IsFed p bytes → IsTaken bytes
+pub is_taken : (bytes : List ℕ) (p : BundleProgress) → IsFed p bytes → IsTaken bytes
 is_taken bytes p fed = subst GoesOn fed.0 fed.1
 
-pub piece_fed : (before piece : List ℕ) (old new : Progress BundleStanding) (r : Result (Unit {0}) JournalFault) → FeedsBy (bundles Any) old piece new → r ≡ answer new → IsFed old before → OnOk r (IsFed new (before ++ piece))
+pub piece_fed : (before piece : List ℕ) (old new : BundleProgress) (r : Result (Unit {0}) JournalFault) → FeedsBy (bundles Any) old piece new → r ≡ answer new → IsFed old before → OnOk r (IsFed new (before ++ piece))
 piece_fed before piece old new (Err fault) h a fed = tt
 piece_fed before piece old new (Ok u) (inl x) a fed = absurd (let bad : Ok u ≡ Err (faults.Set x.0) = a ∙ ap answer x.1 in cc)
 piece_fed before piece old new (Ok u) (inr x) a fed = (x ∙ fed_next before piece old fed.0, goes_on u new a)
 
-pub piece_refused : (before piece : List ℕ) (old new : Progress BundleStanding) (r : Result (Unit {0}) JournalFault) → FeedsBy (bundles Any) old piece new → r ≡ answer new → IsFed old before → IfErr r (λ fault. StopsAt fault (before ++ piece))
+pub piece_refused : (before piece : List ℕ) (old new : BundleProgress) (r : Result (Unit {0}) JournalFault) → FeedsBy (bundles Any) old piece new → r ≡ answer new → IsFed old before → IfErr r (λ fault. StopsAt fault (before ++ piece))
 piece_refused before piece old new (Ok u) h a fed = tt
 piece_refused before piece old new (Err fault) (inl x) a fed =
     let is : (let r : Result (Unit {0}) JournalFault = Err fault in r) ≡ Err (faults.Set x.0) = a ∙ ap answer x.1 in
@@ -141,11 +151,11 @@ piece_refused before piece old new (Err fault) (inr x) a fed = stops_at fault (b
 
 -- ---- the end
 
-pub closed_found : (bytes : List ℕ) (p : Progress BundleStanding) (r : Result BundleValue JournalFault) → r ≡ closing_bundle p → IsFed p bytes → IfOk r (λ b. WritesBundle bytes b)
+pub closed_found : (bytes : List ℕ) (p : BundleProgress) (r : Result BundleValue JournalFault) → r ≡ closing_bundle p → IsFed p bytes → IfOk r (λ b. WritesBundle bytes b)
 closed_found bytes p (Err fault) e fed = tt
 closed_found bytes p (Ok b) e fed = is_found (bundles Any) (IsSoundBundle Any) (bundle_laws Any) (Ok b) bytes (inr (e ∙ ap closing_bundle fed.0))
 
-pub closed_refused : (bytes : List ℕ) (p : Progress BundleStanding) (r : Result BundleValue JournalFault) → r ≡ closing_bundle p → IsFed p bytes → IfErr r (λ fault. IsRefused fault bytes)
+pub closed_refused : (bytes : List ℕ) (p : BundleProgress) (r : Result BundleValue JournalFault) → r ≡ closing_bundle p → IsFed p bytes → IfErr r (λ fault. IsRefused fault bytes)
 closed_refused bytes p (Ok b) e fed = tt
 closed_refused bytes p (Err fault) e fed = closed_is fault bytes (e ∙ ap closing_bundle fed.0)
 

@@ -9,8 +9,8 @@ use Rattle.gtid_set.specs.declared.fault.SetFault.TheVariants.{Memory}
 use Rattle.journal_words.specs.Gtids.{set_of_word}
 use Rattle.rows.specs.declared.schema.Table.{Table}
 use Rattle.txn_journal.specs.BundleReaders.{bundle_reading}
-use Rattle.txn_journal.specs.BundleStates.{BundleStanding, BundleValue}
-use Rattle.txn_journal.specs.Stream.{Progress}
+use Rattle.txn_journal.specs.BundleStates.{BundleValue}
+use Rattle.txn_journal.specs.BundleReading.{BundleProgress}
 use Rattle.txn_journal.specs.declared.fault.JournalFault.{JournalFault}
 use Rattle.txn_journal.specs.declared.fault.JournalFault.TheVariants as faults
 use Rattle.binlog_entries.specs.Imports.{Imports, IsNoImport}
@@ -57,11 +57,11 @@ pub record HasCome (grants : Grants) (start : BundleValue) (text left : List ℕ
 -- ---- a channel that comes
 
 -- a reader that has taken some bytes has now taken these after them
-abbrev pub IsFedWith : Progress BundleStanding → Progress BundleStanding → List ℕ → Type 0
+abbrev pub IsFedWith : BundleProgress → BundleProgress → List ℕ → Type 0
 IsFedWith old new bytes = (before : List ℕ) → IsFed old before → IsFed new (before ++ bytes)
 
 -- the journal that a log describes has come
-pub record FeedsLog (grants : Grants) (start : BundleValue) (log : List ℕ) (old new : Progress BundleStanding) (varied : List ℕ) : Type 0 where
+pub record FeedsLog (grants : Grants) (start : BundleValue) (log : List ℕ) (old new : BundleProgress) (varied : List ℕ) : Type 0 where
   pub journal : List ℕ
   pub imports : Imports start.start.schema start.opened grants.bytes log journal varied
   pub fed : IsFedWith old new journal
@@ -80,7 +80,7 @@ pub record FeedsChannel (grants : Grants) (start : BundleValue) (line log : List
   pub executed : Option Gtids
   pub varied : List ℕ
   pub says : HadExecuted grants line own executed
-  pub middle : Progress BundleStanding
+  pub middle : BundleProgress
   pub fed : IsFedWith (bundle_reading old.reader) middle (with_line_feed own)
   pub brings : FeedsLog grants start log middle (bundle_reading new.reader) varied
   pub said : IsSaid old new executed

@@ -6,10 +6,10 @@ use Rattle.gtid_set.specs.declared.fault.SetFault.{SetFault}
 use Rattle.gtid_set.specs.declared.fault.SetFault.TheVariants.{PoolFull, SourcesFull}
 use Rattle.journal_words.specs.Gtids.{set_of_word, IsWordFault}
 use Rattle.std.specs.FinSet as set
-use Rattle.txn_journal.specs.BundleReading.{bundle_start, feed_bundle_bytes, closing_bundle}
+use Rattle.txn_journal.specs.BundleReading.{BundleProgress, bundle_start, feed_bundle_bytes, closing_bundle}
 use Rattle.txn_journal.specs.BundleRefused.{RefusesBundle}
-use Rattle.txn_journal.specs.BundleStates.{BundleStanding, BundleValue}
-use Rattle.txn_journal.specs.Stream.{Progress, Reading, Stopped, next_number}
+use Rattle.txn_journal.specs.BundleStates.{BundleValue}
+use Rattle.txn_journal.specs.Stream.{Reading, Stopped, next_number}
 use Rattle.txn_journal.specs.Words.{BeginsWithLine}
 use Rattle.txn_journal.specs.declared.fault.Cause.TheVariants as causes
 use Rattle.txn_journal.specs.declared.fault.JournalFault.{JournalFault}
@@ -54,12 +54,12 @@ channel_fault_at (channels.Journal fault) line = bundles.Journal (fault_at_line 
 -- ---- the reader of bundles
 
 -- it has not stopped
-abbrev pub GoesOn : Progress BundleStanding → Type 0
+abbrev pub GoesOn : BundleProgress → Type 0
 GoesOn (Reading s n rest) = Unit {0}
 GoesOn (Stopped fault) = ⊥
 
 -- these bytes have come, and were taken
-abbrev pub IsFed : Progress BundleStanding → List ℕ → Type 0
+abbrev pub IsFed : BundleProgress → List ℕ → Type 0
 IsFed p bytes = (p ≡ feed_bundle_bytes (bundle_start Any) bytes) × GoesOn p
 
 -- nothing is wrong with the whole lines of these bytes, as those of a bundle
@@ -80,17 +80,17 @@ IsRefused (faults.Line n cause) bytes = RefusesBundle (faults.Line n cause) byte
 IsRefused (faults.Truncated n) bytes = RefusesBundle (faults.Truncated n) bytes × (closing_bundle (feed_bundle_bytes (bundle_start Any) bytes) ≡ Err (faults.Truncated n))
 
 -- a piece more: after all bytes that were taken before it, it is taken, or else refused
-abbrev pub TakesMore : {A : Type 0} → Result A JournalFault → Progress BundleStanding → Progress BundleStanding → List ℕ → Type 0
+abbrev pub TakesMore : {A : Type 0} → Result A JournalFault → BundleProgress → BundleProgress → List ℕ → Type 0
 TakesMore result old new piece = (before : List ℕ) → IsFed old before → OnOk result (IsFed new (before ++ piece))
 
-abbrev pub StopsIn : {A : Type 0} → Result A JournalFault → Progress BundleStanding → List ℕ → Type 0
+abbrev pub StopsIn : {A : Type 0} → Result A JournalFault → BundleProgress → List ℕ → Type 0
 StopsIn result old piece = (before : List ℕ) → IsFed old before → IfErr result (λ fault. StopsAt fault (before ++ piece))
 
 -- the last piece: with all bytes before it, it is the text of this bundle, or else refused
-abbrev pub EndsBundle : Result BundleValue JournalFault → Progress BundleStanding → List ℕ → Type 0
+abbrev pub EndsBundle : Result BundleValue JournalFault → BundleProgress → List ℕ → Type 0
 EndsBundle result old piece = (before : List ℕ) → IsFed old before → IfOk result (λ b. WritesBundle (before ++ piece) b)
 
-abbrev pub EndsRefused : {A : Type 0} → Result A JournalFault → Progress BundleStanding → List ℕ → Type 0
+abbrev pub EndsRefused : {A : Type 0} → Result A JournalFault → BundleProgress → List ℕ → Type 0
 EndsRefused result old piece = (before : List ℕ) → IsFed old before → IfErr result (λ fault. IsRefused fault (before ++ piece))
 
 -- it names a line

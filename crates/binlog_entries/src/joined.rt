@@ -1,13 +1,13 @@
 //! Sets joined to a set, line by line.
-ghost use Rattle.std.specs.Prelude.{◌≡◌, ◌≤◌, true, OnOk, IfOk, IfErr};
+ghost use Rattle.std.specs.Prelude.{◌≡◌, true, OnOk, IfOk, IfErr};
 ghost use Rattle.std.specs.FinSet as set;
 ghost use Rattle.gtid_set.specs.Full.{IsFaultOf};
-ghost use Rattle.gtid_set.specs.Sets.{interval};
-ghost use Rattle.gtid_set.specs.Spans.{set_of, is_merged};
+ghost use Rattle.gtid_set.specs.Spans.{set_of};
 
 use gtid_set::{GtidSet, SetFault};
 use gtid_text::Span;
 use std::alloc::{AllocError, Global};
+use txn_journal::has_spans;
 
 /// Adds intervals to a set, up to the first that is refused. The result is whether none was.
 fn add_all(whole: &mut GtidSet, spans: &[Span]) -> bool
@@ -36,29 +36,6 @@ pub fn join(alloc: Global, whole: &mut GtidSet, more: &GtidSet) -> Result<(), Se
     // (if an interval is refused on the way, the whole may still have room)
     *whole = whole.union(alloc, more)?;
     Ok(())
-}
-
-/// Whether a set has all of an interval.
-fn has_span(whole: &GtidSet, span: &Span) -> bool
-    requires { span.now.lo ≤ span.now.hi }
-    ensures { result ≡ set.is_subset (interval span.now.source span.now.lo span.now.hi) whole.now }
-{
-    match whole.run_end(span.source, span.lo) {
-        Some(last) => span.hi <= last,
-        None => false,
-    }
-}
-
-fn has_spans(whole: &GtidSet, spans: &[Span]) -> bool
-    requires { is_merged spans.now ≡ true }
-    ensures { result ≡ set.is_subset (set_of spans.now) whole.now }
-{
-    for span in spans {
-        if !has_span(whole, span) {
-            return false;
-        }
-    }
-    true
 }
 
 /// Whether a set has all of another, interval by interval: as many steps as to join it.

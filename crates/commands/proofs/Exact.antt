@@ -19,7 +19,7 @@ has_rows BySource b rows r = inl (record { sound = r.sound; rows_are = r.rows_ar
 has_rows ByConflict b rows r = inr (record { sound = r.sound; rows_are = r.rows_are })
 
 answer_is : (order : Order) (b : BundleValue) (rows : Rows) → ResultsIn order b rows → apply_answer order b ≡ printed_state (assumed b) b.start.schema (union_of_journals b) rows
-answer_is order b rows r = λ i. state_or_verdict (assumed b) b.start.schema (r.sound i) (union_of_journals b) (r.rows_are i)
+answer_is order b rows r = rw r.known (λ i. state_or_verdict (assumed b) b.start.schema (r.sound i) (union_of_journals b) (r.rows_are i))
 
 pub answers_alike : EqualUnionsEqualRows → (a b : BundleValue) → AreCarriers a.start.schema a.start.rows → AreJournals a.journals → AreJournals b.journals → AnswerAlike a b
 answers_alike law a b carriers js ks o p x y alike left right =

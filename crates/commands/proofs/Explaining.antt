@@ -10,7 +10,8 @@ use Rattle.gtid_report.specs.declared.fault.Fault.TheVariants as fault
 use Rattle.serving.specs.Faults.{IsVerdictFault}
 use Rattle.serving.specs.declared.order.Order.{Order}
 use Rattle.commands.specs.Printed.{Holds, Finds, GivesUp, answer_of, refused_with}
-use Rattle.commands.specs.Bundles.{Audits, ParsesAsBundle, audit_answer, bundle_in}
+use Rattle.commands.specs.Parsing.{ParsesAsBundle, bundle_in}
+use Rattle.commands.specs.Bundles.{Audits, audit_answer}
 use Rattle.commands.specs.Texts.{IsTextOf}
 use Rattle.commands.specs.Reports.{HoldsReport}
 use Rattle.commands.specs.Explaining.{Explains, ExplainsBundle, FindsExplained, SettlesExplained}

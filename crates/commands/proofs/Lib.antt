@@ -16,3 +16,4 @@ pub mod LinesPassed
 pub mod Appended
 pub mod WrittenLines
 pub mod Exact
+pub mod BundleRead

@@ -15,7 +15,7 @@ use Rattle.txn_journal.specs.declared.fault.JournalFault.{JournalFault}
 use Rattle.gtid_report.specs.Faults.{set_fault}
 use Rattle.serving.specs.Faults.{IsBundleFault, IsVerdictFault}
 use Rattle.commands.specs.Printed.{GivesUp}
-use Rattle.commands.specs.Bundles.{ParsesAsBundle}
+use Rattle.commands.specs.Parsing.{ParsesAsBundle}
 use Rattle.commands.specs.Positions.{ParsesAsJournal}
 
 -- a bundle that was decoded is one by its grammar

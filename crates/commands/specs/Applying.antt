@@ -1,6 +1,7 @@
 -- The result of a bundle's journals when workers apply them.
-use Rattle.std.specs.Prelude.{◌≡◌, ◌⊎◌, ℕ, ◌+◌, List, [], ◌∷◌, ◌++◌, Ok}
+use Rattle.std.specs.Prelude.{◌≡◌, ◌⊎◌, ℕ, ◌+◌, true, List, [], ◌∷◌, ◌++◌, Ok}
 use Rattle.txn_journal.specs.BundleStates.{BundleValue}
+use Rattle.txn_journal.specs.Assumptions.{lacks_rows}
 use Rattle.replica_core.specs.Draining.{AreStoppedOrDone}
 use Rattle.replica_lines.specs.Histories.{history_line}
 use Rattle.shared_replica.specs.declared.step.Step.{Step}
@@ -14,7 +15,9 @@ use Rattle.serving.specs.Serving.{IsReady}
 use Rattle.serving.specs.Verdicts.{HasMerged, IsConcluded, keys_over}
 use Rattle.commands.specs.declared.parallel.Worked.{Worked}
 use Rattle.commands.specs.Printed.{Printed, with_line_feed, refused_with}
-use Rattle.commands.specs.Bundles.{Applies, apply_answer, bundle_in}
+use Rattle.commands.specs.Parsing.{bundle_in}
+use Rattle.commands.specs.Counted.{line_count}
+use Rattle.commands.specs.Bundles.{Applies, applied_text}
 
 -- ---- a history
 
@@ -46,11 +49,11 @@ lines_from place (s ∷ steps) = with_line_feed (history_line place s.event s.re
 abbrev pub TellsHistory : Order → BundleValue → List ℕ → Type 0
 TellsHistory order b notes = (book : ClosedValue) × IsHistory order b book × (notes ≡ lines_from 0 book.steps)
 
--- the keys are not sound, and there is no history
+-- the opening rows aren't known, or the keys are not sound, and there is no history
 abbrev pub HasNoHistory : Order → BundleValue → List ℕ → Type 0
-HasNoHistory order b notes = (keys_over order b ≡ Sound → ⊥) × (notes ≡ [])
+HasNoHistory order b notes = ((lacks_rows b.assumptions ≡ true) ⊎ (keys_over order b ≡ Sound → ⊥)) × (notes ≡ [])
 
--- the lines of a history, or none if the keys are not sound
+-- the lines of a history, or none if the opening rows aren't known or the keys are not sound
 abbrev pub TellsOf : Order → BundleValue → List ℕ → Type 0
 TellsOf order b notes = TellsHistory order b notes ⊎ HasNoHistory order b notes
 
@@ -58,7 +61,7 @@ TellsOf order b notes = TellsHistory order b notes ⊎ HasNoHistory order b note
 pub record IsTold (order : Order) (bytes : List ℕ) (printed : Printed) (notes : List ℕ) : Type 0 where
   pub bundle : BundleValue
   pub parsed : bundle_in bytes ≡ Ok bundle
-  pub answer : printed ≡ apply_answer order bundle
+  pub answer : printed ≡ applied_text order (record { bundle = bundle; lines = line_count bytes })
   pub tells : TellsOf order bundle notes
 
 -- it is a refusal, which has no history

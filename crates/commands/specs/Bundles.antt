@@ -1,5 +1,5 @@
 -- What the commands on bundles answer.
-use Rattle.std.specs.Prelude.{ℕ, Bool, true, false, ◌||◌, nat_lt, List, [], ◌∷◌, ◌++◌, length, Result, Ok, Err, if◌then◌else◌}
+use Rattle.std.specs.Prelude.{ℕ, ◌-◌, Bool, true, false, ◌||◌, nat_lt, List, [], ◌∷◌, ◌++◌, length, Result, Ok, Err, if◌then◌else◌}
 use Rattle.std.specs.List.{list_any}
 use Rattle.std.specs.FinSet as set
 use Rattle.rows.specs.declared.change.RowFault.{RowFault}
@@ -14,66 +14,36 @@ use Rattle.history.specs.Sources.{rows_of}
 use Rattle.gtid_set.specs.Sets.{Gtids}
 use Rattle.convergence.specs.Deciding.{all_of}
 use Rattle.txn_journal.specs.BundleStates.{BundleValue}
-use Rattle.txn_journal.specs.BundleReading.{bundle_start, feed_bundle_bytes, closing_bundle}
-use Rattle.txn_journal.specs.BundleText.{WritesBundleBy, WritesBundle, spelling_by}
-use Rattle.txn_journal.specs.BundleRefused.{RefusesBundleBy, RefusesBundle}
+use Rattle.txn_journal.specs.BundleText.{spelling_by}
 use Rattle.txn_journal.specs.declared.lines.Version.{Version}
 use Rattle.txn_journal.specs.declared.lines.Version.TheVariants.{One, Two, Three}
-use Rattle.txn_journal.specs.declared.fault.JournalFault.{JournalFault}
 use Rattle.txn_journal.specs.declared.lines.Due.{Due}
-use Rattle.txn_journal.specs.declared.lines.Due.TheVariants.{Any, Only, BeforeThree}
+use Rattle.txn_journal.specs.declared.lines.Due.TheVariants.{Only, BeforeThree}
 use Rattle.gtid_report.specs.State.{executed_line, rows_text}
-use Rattle.gtid_report.specs.Assumed.{assumed, verdict_line_under, assume_lines}
+use Rattle.gtid_report.specs.Assumed.{assumed, assume_lines}
+use Rattle.txn_journal.specs.Assumptions.{lacks_rows}
 use Rattle.txn_journal.specs.declared.assumptions.Assumption.{Assumption}
 use Rattle.rows.specs.Listing.{rows_listed}
 use Rattle.history.specs.World as ordered
 use Rattle.serving.specs.declared.order.Order.{Order}
 use Rattle.serving.specs.declared.order.Order.TheVariants.{BySource, ByConflict}
-use Rattle.serving.specs.Verdicts.{world_over, joined_over, verdict_over}
+use Rattle.serving.specs.Verdicts.{world_over, joined_over, verdict_over, audited_over}
 use Rattle.serving.specs.Faults.{IsBundleFault, IsVerdictFault}
-use Rattle.commands.specs.Printed.{Printed, with_line_feed, IsAnswerTo}
-use Rattle.commands.specs.declared.edge.Outcome.{Outcome}
+use Rattle.commands.specs.Printed.{Printed, IsAnswerTo}
+use Rattle.commands.specs.Verdicts.{sound_ending, printed_verdict}
+use Rattle.commands.specs.Unapplied.{unapplied, rows_line}
+use Rattle.commands.specs.Parsing.{ParsesAsBundle, bundle_in, ParsesBy, bundle_by}
+use Rattle.commands.specs.Counted.{ParsesAsCounted, counted_in}
+use Rattle.commands.specs.declared.text.CountedBundle.{CountedBundle}
 use Rattle.commands.specs.declared.upgrade_command.Target.{Target}
 use Rattle.commands.specs.declared.upgrade_command.Target.TheVariants as targets
-use Rattle.commands.specs.declared.edge.Outcome.TheVariants.{Done, Assumed, Refused}
-
--- ---- what the bytes are
-
--- the bundle that the bytes parse as, or the first fault
-abbrev pub bundle_in : List ℕ → Result BundleValue JournalFault
-bundle_in bytes = closing_bundle (feed_bundle_bytes (bundle_start Any) bytes)
-
--- by the grammar of bundles the bytes are the text of this bundle, or have this first fault
-abbrev pub ParsesAsBundle : List ℕ → Result BundleValue JournalFault → Type 0
-ParsesAsBundle bytes (Ok b) = WritesBundle bytes b
-ParsesAsBundle bytes (Err fault) = RefusesBundle fault bytes
-
--- the bundle that the bytes parse as by a version that is due, or the first fault
-abbrev pub bundle_by : Due → List ℕ → Result BundleValue JournalFault
-bundle_by due bytes = closing_bundle (feed_bundle_bytes (bundle_start due) bytes)
-
--- the same by the grammar of these versions
-abbrev pub ParsesBy : Due → List ℕ → Result BundleValue JournalFault → Type 0
-ParsesBy due bytes (Ok b) = WritesBundleBy due bytes b
-ParsesBy due bytes (Err fault) = RefusesBundleBy due fault bytes
+use Rattle.commands.specs.declared.edge.Outcome.TheVariants.{Done}
 
 -- ---- the audit
 
--- how a command ends whose verdict is Sound, by what that rests on
-abbrev pub sound_ending : List Assumption → Outcome
-sound_ending [] = Done
-sound_ending (a ∷ said) = Assumed
-
-abbrev pub verdict_ending : List Assumption → Verdict → Outcome
-verdict_ending said Sound = sound_ending said
-verdict_ending said v = Refused
-
-abbrev pub printed_verdict : List Assumption → Verdict → Printed
-printed_verdict said v = record { text = with_line_feed (verdict_line_under said v); outcome = verdict_ending said v }
-
 -- the verdict of the audit that asks for this order, and what it rests on
 abbrev pub audit_answer : Order → BundleValue → Printed
-audit_answer order b = printed_verdict (assumed b) (verdict_over order b)
+audit_answer order b = printed_verdict (assumed b) (audited_over order b)
 
 -- it is the answer of that audit to these bytes
 abbrev pub Audits : Order → List ℕ → Printed → Type 0
@@ -135,9 +105,17 @@ rows_of_union ByConflict b = ordered.rows_of (joined_over b) (set.contains (unio
 
 -- The executed set is that of all journals together, and the rows are those that this set denotes, if the audit reports Sound; else its
 -- verdict.
+abbrev pub applied_answer : Order → BundleValue → Printed
+applied_answer order b = state_or_verdict (assumed b) b.start.schema (verdict_over order b) (union_of_journals b) (rows_of_union order b)
+
+-- that, if the opening rows are known. If they aren't, a refusal names the line that says so, of the text that writing the bundle gives.
 abbrev pub apply_answer : Order → BundleValue → Printed
-apply_answer order b = state_or_verdict (assumed b) b.start.schema (verdict_over order b) (union_of_journals b) (rows_of_union order b)
+apply_answer order b = if lacks_rows b.assumptions then unapplied order (rows_line b) b else applied_answer order b
+
+-- the same for a bundle that was read, where that is the last line but one of its text
+abbrev pub applied_text : Order → CountedBundle → Printed
+applied_text order it = if lacks_rows it.bundle.assumptions then unapplied order (it.lines - 1) it.bundle else applied_answer order it.bundle
 
 -- it is what applying answers to these bytes
 abbrev pub Applies : Order → List ℕ → Printed → Type 0
-Applies order bytes printed = IsAnswerTo ParsesAsBundle bundle_in (apply_answer order) IsBundleFault bytes printed
+Applies order bytes printed = IsAnswerTo ParsesAsCounted counted_in (applied_text order) (λ it. IsBundleFault it.bundle) bytes printed

@@ -1,17 +1,19 @@
 -- Bundles whose journals have equal unions.
-use Rattle.std.specs.Prelude.{◌≡◌, Ok}
+use Rattle.std.specs.Prelude.{◌≡◌, false, Ok}
 use Rattle.rows.specs.Apply.{Rows}
 use Rattle.world.specs.Audit.{all_entries}
 use Rattle.world.specs.declared.verdict.Verdict.TheVariants.{Sound}
 use Rattle.world.specs.Exact.{AgreeInContents}
 use Rattle.txn_journal.specs.BundleStates.{BundleValue}
+use Rattle.txn_journal.specs.Assumptions.{lacks_rows}
 use Rattle.gtid_report.specs.Assumed.{assumed}
 use Rattle.serving.specs.declared.order.Order.{Order}
 use Rattle.serving.specs.Verdicts.{verdict_over}
 use Rattle.commands.specs.Bundles.{union_of_journals, rows_of_union, apply_answer}
 
--- The audit reports Sound, and these are the rows of the union: applying answers with them.
+-- The opening rows are known, the audit reports Sound, and these are the rows of the union: applying answers with them.
 pub record ResultsIn (order : Order) (b : BundleValue) (rows : Rows) : Type 0 where
+  pub known : lacks_rows b.assumptions ≡ false
   pub sound : verdict_over order b ≡ Sound
   pub rows_are : rows_of_union order b ≡ Ok rows
 

@@ -9,12 +9,13 @@ use Rattle.gtid_report.specs.declared.fault.Fault.{Fault}
 use Rattle.gtid_report.specs.declared.fault.Fault.TheVariants as fault
 use Rattle.gtid_report.specs.declared.refusal.Refusal.{Refusal}
 use Rattle.serving.specs.declared.order.Order.{Order}
-use Rattle.serving.specs.Verdicts.{verdict_over}
+use Rattle.serving.specs.Verdicts.{audited_over}
 use Rattle.serving.specs.Listing.{faults_over, IsFaultsFault}
 use Rattle.fault_places.specs.Lines.{lines_of}
 use Rattle.fault_places.specs.Explained.{verdict_explained, refusal_explained}
 use Rattle.commands.specs.Printed.{Printed, Holds, refused_with}
-use Rattle.commands.specs.Bundles.{Audits, audit_answer, bundle_in}
+use Rattle.commands.specs.Parsing.{bundle_in}
+use Rattle.commands.specs.Bundles.{Audits, audit_answer}
 use Rattle.commands.specs.Reports.{FindsReport}
 use Rattle.commands.specs.declared.report.Report.{Report}
 
@@ -33,7 +34,7 @@ AreMissingBeside b v gtids = gtids ≡ None
 -- these lines explain the verdict on a bundle that has this text
 abbrev pub ExplainsBundle : Order → List ℕ → BundleValue → List ℕ → Type 0
 ExplainsBundle order bytes b notes =
-    (missing : Option Gtids) × AreMissingBeside b (verdict_over order b) missing × (notes ≡ verdict_explained (lines_of bytes) b missing (verdict_over order b))
+    (missing : Option Gtids) × AreMissingBeside b (audited_over order b) missing × (notes ≡ verdict_explained (lines_of bytes) b missing (audited_over order b))
 
 -- it is the verdict on the bundle that the bytes parse as, and these lines explain it
 pub record IsVerdictExplained (order : Order) (bytes : List ℕ) (printed : Printed) (notes : List ℕ) : Type 0 where

@@ -2,6 +2,10 @@ pub mod Edge
 pub mod SetCommand
 pub mod Printed
 pub mod Applying
+pub mod Parsing
+pub mod Counted
+pub mod Verdicts
+pub mod Unapplied
 pub mod Bundles
 pub mod Reports
 pub mod LogPlaces

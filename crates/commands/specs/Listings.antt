@@ -11,9 +11,10 @@ use Rattle.gtid_report.specs.Assumed.{assumed, conditions, verdict_line_under}
 use Rattle.txn_journal.specs.declared.assumptions.Assumption.{Assumption}
 use Rattle.audit.specs.declared.listing.AllFaults.{AllFaults}
 use Rattle.audit.specs.Others.{Faults}
-use Rattle.serving.specs.Listing.{faults_over, IsFaultsFault}
+use Rattle.serving.specs.Listing.{faults_known, IsFaultsFault}
 use Rattle.commands.specs.Printed.{Printed, with_line_feed, IsAnswerTo}
-use Rattle.commands.specs.Bundles.{ParsesAsBundle, bundle_in, verdict_ending}
+use Rattle.commands.specs.Verdicts.{verdict_ending}
+use Rattle.commands.specs.Parsing.{ParsesAsBundle, bundle_in}
 
 -- the lines of verdicts
 abbrev pub verdict_lines : List Verdict → List ℕ
@@ -60,7 +61,7 @@ printed_faults said all = record { text = faults_text said all; outcome = verdic
 
 -- the verdict of the audit, and what else there is
 abbrev pub list_answer : BundleValue → Printed
-list_answer b = printed_faults (assumed b) (faults_over b)
+list_answer b = printed_faults (assumed b) (faults_known b)
 
 -- it is the answer of `audit --all` to these bytes
 abbrev pub Lists : List ℕ → Printed → Type 0

@@ -4,7 +4,7 @@ ghost use Rattle.gtid_report.specs.State.{executed_line};
 ghost use Rattle.gtid_report.specs.Assumed.{assumed, assume_lines};
 ghost use Rattle.serving.specs.Verdicts.{IsUnsound};
 ghost use Rattle.commands.specs.Printed.{Holds};
-ghost use Rattle.commands.specs.Bundles.{printed_state, apply_answer};
+ghost use Rattle.commands.specs.Bundles.{printed_state, applied_answer};
 
 use crate::answer::Answer;
 use crate::audit_command::{sound_ending, verdict_answer};
@@ -57,7 +57,7 @@ pub(crate) fn unsound_answer(
     verdict: &Verdict,
 ) -> Result<Answer, AllocError>
     requires { IsUnsound order bundle.now verdict.now }
-    ensures { IfOk result (λ answer. Holds answer (apply_answer order bundle.now)) }
+    ensures { IfOk result (λ answer. Holds answer (applied_answer order bundle.now)) }
 {
     verdict_answer(alloc, bundle, verdict)
 }

@@ -3,7 +3,7 @@ ghost use Rattle.std.specs.Prelude.{◌≡◌, ◌≤◌, IfOk, IfErr};
 ghost use Rattle.std.specs.Thread.{IsSync};
 ghost use Rattle.serving.specs.Faults.{IsBundleFault};
 ghost use Rattle.commands.specs.Printed.{to_all, IsDone, HasFailed};
-ghost use Rattle.commands.specs.Bundles.{apply_answer, Applies};
+ghost use Rattle.commands.specs.Bundles.{applied_text, Applies};
 
 use crate::answer::Answer;
 use crate::bundle_reading::read_bundle;
@@ -12,13 +12,14 @@ use crate::merge_way::merge_held;
 use crate::replica_way::apply_decoded;
 use crate::request::{Request, answer_decoded, run};
 use crate::streams::Streams;
+use crate::text::CountedBundle;
+use crate::unapplied::unapplied_answer;
 use applier::NoGate;
 use gtid_report::Fault;
 use serving::Order;
 use std::alloc::Global;
 use std::sync::Wait;
 use std::thread::Threads;
-use txn_journal::Bundle;
 
 /// How a bundle is applied. The answer is the same.
 #[derive(Clone, Copy, Debug, PartialEq, Eq, Drop)]
@@ -39,15 +40,19 @@ struct ApplyRequest<'a, R: Threads + Wait + Sync> {
 }
 
 impl<'a, R: Threads + Wait + Sync> Request for ApplyRequest<'a, R> {
-    type Value = Bundle;
+    type Value = CountedBundle;
 
     ghost ready = { λ asked. (1 ≤ asked.workers) × (asked.workers ≤ 64) × IsSync R.row };
 
-    ghost answers = { λ asked b. apply_answer asked.order b };
+    ghost answers = { λ asked it. applied_text asked.order it };
 
-    ghost may_fail = { λ _ b. IsBundleFault b };
+    ghost may_fail = { λ _ it. IsBundleFault it.bundle };
 
-    fn answer(&self, alloc: Global, bundle: &Bundle) -> Result<Answer, Fault> {
+    fn answer(&self, alloc: Global, counted: &CountedBundle) -> Result<Answer, Fault> {
+        let bundle = &counted.bundle;
+        if bundle.lacks_rows() {
+            return unapplied_answer(alloc, self.order, bundle, counted.lines.saturating_sub(1));
+        }
         let rt = self.threads;
         match self.way {
             Way::Merge => Ok(merge_held(rt, alloc, bundle, self.order, self.workers)?.leave()),

@@ -3,7 +3,8 @@ ghost use Rattle.std.specs.Prelude.{◌≡◌, IfOk, IfErr};
 ghost use Rattle.serving.specs.Faults.{IsVerdictFault};
 ghost use Rattle.commands.specs.Printed.{Holds, to_all, IsDone, HasFailed};
 ghost use Rattle.gtid_report.specs.Assumed.{assumed};
-ghost use Rattle.commands.specs.Bundles.{Audits, audit_answer, sound_ending, verdict_ending, printed_verdict};
+ghost use Rattle.commands.specs.Verdicts.{sound_ending, verdict_ending, printed_verdict};
+ghost use Rattle.commands.specs.Bundles.{Audits, audit_answer};
 
 use crate::answer::{Answer, with_line_feed};
 use crate::edge::{Outcome, RunFault, Sink, Source};
@@ -11,7 +12,7 @@ use crate::pieces::Text;
 use crate::request::{Request, run};
 use crate::streams::Streams;
 use gtid_report::{Fault, is_assuming, render_verdict_on};
-use serving::{Order, verdict_over};
+use serving::{Order, audited_over};
 use std::alloc::{AllocError, Global};
 use txn_journal::Bundle;
 use world::Verdict;
@@ -66,7 +67,7 @@ impl Request for Audit {
     ghost may_fail = { λ _ b. IsVerdictFault b };
 
     fn answer(&self, alloc: Global, bundle: &Bundle) -> Result<Answer, Fault> {
-        let verdict = verdict_over(alloc, bundle, self.order)?;
+        let verdict = audited_over(alloc, bundle, self.order)?;
         Ok(verdict_answer(alloc, bundle, &verdict)?)
     }
 }

@@ -17,7 +17,7 @@ use crate::streams::Streams;
 use fault_places::{explain_refusal, explain_verdict};
 use gtid_report::{Fault, Refusal};
 use gtid_set::{GtidSet, SetFault};
-use serving::{Order, faults_over, verdict_over};
+use serving::{Order, audited_over, faults_over};
 use std::alloc::{AllocError, Global};
 use std::mem;
 use txn_journal::Bundle;
@@ -52,7 +52,7 @@ fn explain_bundle(
     ensures notes { IfOk result (λ held. ExplainsBundle order bytes.now bundle.now held.notes.items) }
     ensures fault { IfErr result (GivesUp (IsVerdictFault bundle.now)) }
 {
-    let verdict = verdict_over(alloc, bundle, order)?;
+    let verdict = audited_over(alloc, bundle, order)?;
     let missing = missing_beside(alloc, bundle, &verdict)?;
     let notes = explain_verdict(alloc, bytes, bundle, &missing, &verdict)?;
     Ok(Report {

@@ -1,23 +1,27 @@
 //! The command `apply --by replica --history`.
-ghost use Rattle.std.specs.Prelude.{◌≡◌, ◌≤◌, ◌++◌, [], IfOk, IfErr, OnOk, string_bytes};
+ghost use Rattle.std.specs.Prelude.{◌≡◌, ◌≤◌, ◌-◌, ◌++◌, [], true, IfOk, IfErr, OnOk, string_bytes};
 ghost use Rattle.std.specs.Thread.{IsSync};
 ghost use Rattle.serving.specs.Faults.{IsBundleFault};
 ghost use Rattle.serving.specs.Verdicts.{IsStateOrVerdict, IsUnsound, IsVerdictOfKeys, keys_over};
 ghost use Rattle.replica_lines.specs.Histories.{history_line};
 ghost use Rattle.commands.specs.Applying.{IsWorked, Tells, TellsOf, lines_from};
 ghost use Rattle.commands.specs.Printed.{Holds, GivesUp, refused_with, with_line_feed};
-ghost use Rattle.commands.specs.Bundles.{apply_answer};
+ghost use Rattle.commands.specs.Bundles.{applied_answer, applied_text};
+ghost use Rattle.commands.specs.Counted.{line_count};
+ghost use Rattle.commands.specs.Unapplied.{unapplied};
+ghost use Rattle.txn_journal.specs.Assumptions.{lacks_rows};
 ghost use Rattle.commands.specs.Reports.{HoldsReport, HasReported, HasNotReported};
 ghost use Rattle.commands.specs.Telling.{FindsTold, SettlesTold};
 
 use crate::answer::refusal_answer;
 use crate::applied_answer::unsound_answer;
-use crate::bundle_reading::decode_whole;
+use crate::bundle_reading::{count_lines, decode_whole};
 use crate::edge::{Outcome, RunFault, Sink, Source};
 use crate::parallel::{Worked, work_journals};
 use crate::replica_way::worked_answer;
 use crate::report::{Report, Reporter, run_report};
 use crate::streams::Streams;
+use crate::unapplied::unapplied_answer;
 use applier::NoGate;
 use gtid_report::{Fault, Refusal};
 use replica_lines::push_history_line;
@@ -56,7 +60,7 @@ fn tell_worked(
     worked: &Worked,
 ) -> Result<Report, AllocError>
     requires { IsWorked order bundle.now worked.now }
-    ensures answer { IfOk result (λ held. Holds held.answer (apply_answer order bundle.now)) }
+    ensures answer { IfOk result (λ held. Holds held.answer (applied_answer order bundle.now)) }
     ensures notes { IfOk result (λ held. TellsOf order bundle.now held.notes.items) }
 {
     let lines = history_text(alloc, worked.book.steps())?;
@@ -76,7 +80,7 @@ fn tell_unsound(
 ) -> Result<Report, AllocError>
     requires unsound { IsUnsound order bundle.now verdict.now }
     requires keys { verdict.now ≡ keys_over order bundle.now }
-    ensures answer { IfOk result (λ held. Holds held.answer (apply_answer order bundle.now)) }
+    ensures answer { IfOk result (λ held. Holds held.answer (applied_answer order bundle.now)) }
     ensures notes { IfOk result (λ held. TellsOf order bundle.now held.notes.items) }
 {
     Ok(Report {
@@ -94,7 +98,7 @@ fn tell_result(
 ) -> Result<Report, AllocError>
     requires found { IsStateOrVerdict (IsWorked order bundle.now) order bundle.now found.now }
     requires keys { IsVerdictOfKeys order bundle.now found.now }
-    ensures answer { IfOk result (λ held. Holds held.answer (apply_answer order bundle.now)) }
+    ensures answer { IfOk result (λ held. Holds held.answer (applied_answer order bundle.now)) }
     ensures notes { IfOk result (λ held. TellsOf order bundle.now held.notes.items) }
 {
     match found {
@@ -103,8 +107,8 @@ fn tell_result(
     }
 }
 
-/// The result of a bundle, with the lines of a history.
-fn tell_bundle<R: Threads + Wait + Sync>(
+/// The result of a bundle whose opening rows are known, with the lines of a history.
+fn tell_known<R: Threads + Wait + Sync>(
     rt: &R,
     alloc: Global,
     order: Order,
@@ -112,7 +116,7 @@ fn tell_bundle<R: Threads + Wait + Sync>(
     bundle: &Bundle,
 ) -> Result<Report, Fault>
     requires { (1 ≤ workers) × (workers ≤ 64) }
-    ensures answer { IfOk result (λ held. Holds held.answer (apply_answer order bundle.now)) }
+    ensures answer { IfOk result (λ held. Holds held.answer (applied_answer order bundle.now)) }
     ensures notes { IfOk result (λ held. TellsOf order bundle.now held.notes.items) }
     ensures fault { IfErr result (GivesUp (IsBundleFault bundle.now)) }
 {
@@ -120,6 +124,45 @@ fn tell_bundle<R: Threads + Wait + Sync>(
     let held = tell_result(alloc, order, bundle, &found);
     drop(found);
     Ok(held?)
+}
+
+/// What is answered where the opening rows aren't known. There is no history.
+fn tell_unapplied(
+    alloc: Global,
+    order: Order,
+    bytes: &[u8],
+    bundle: &Bundle,
+) -> Result<Report, Fault>
+    requires { lacks_rows bundle.now.assumptions ≡ true }
+    ensures answer { IfOk result (λ held. Holds held.answer (unapplied order (line_count bytes.now - 1) bundle.now)) }
+    ensures notes { IfOk result (λ held. TellsOf order bundle.now held.notes.items) }
+    ensures fault { IfErr result (GivesUp (IsBundleFault bundle.now)) }
+{
+    Ok(Report {
+        answer: unapplied_answer(alloc, order, bundle, count_lines(bytes).saturating_sub(1))?,
+        notes: Vec::new(alloc),
+    })
+}
+
+/// The result of a bundle that has this text, with the lines of a history.
+fn tell_bundle<R: Threads + Wait + Sync>(
+    rt: &R,
+    alloc: Global,
+    order: Order,
+    workers: u8,
+    bytes: &[u8],
+    bundle: &Bundle,
+) -> Result<Report, Fault>
+    requires { (1 ≤ workers) × (workers ≤ 64) }
+    ensures answer { IfOk result (λ held. Holds held.answer (applied_text order (record { bundle = bundle.now; lines = line_count bytes.now }))) }
+    ensures notes { IfOk result (λ held. TellsOf order bundle.now held.notes.items) }
+    ensures fault { IfErr result (GivesUp (IsBundleFault bundle.now)) }
+{
+    if bundle.lacks_rows() {
+        tell_unapplied(alloc, order, bytes, bundle)
+    } else {
+        tell_known(rt, alloc, order, workers, bundle)
+    }
 }
 
 /// The result of a bundle's bytes, with the lines of a history; or the fault of the bytes.
@@ -134,7 +177,7 @@ fn tell_found<R: Threads + Wait + Sync>(
     ensures { FindsTold order bytes.now result }
 {
     match decode_whole(alloc, bytes) {
-        Ok(bundle) => tell_bundle(rt, alloc, order, workers, &bundle),
+        Ok(bundle) => tell_bundle(rt, alloc, order, workers, bytes, &bundle),
         Err(fault) => Err(Fault::from(fault)),
     }
 }
@@ -201,8 +244,8 @@ impl<'a, R: Threads + Wait + Sync> Reporter for ToldApply<'a, R> {
 }
 
 /// Reads a bundle, writes to the streams what `apply_bundle` writes, and nothing else, and to `errors` the lines of the history by which
-/// workers that share a replica came to it: `<place> <seat> <event> -> <reply>`. If the bytes are no bundle, or if the keys of its journals
-/// are not sound, there is no history. If the answer could not be written, nothing is told.
+/// workers that share a replica came to it: `<place> <seat> <event> -> <reply>`. If the bytes are no bundle, if its opening rows aren't known, or
+/// if the keys of its journals are not sound, there is no history. If the answer could not be written, nothing is told.
 pub fn apply_and_tell<S: Source, W: Sink, E: Sink, R: Threads + Wait + Sync>(
     rt: &R,
     alloc: Global,

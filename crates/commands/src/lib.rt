@@ -66,6 +66,7 @@ mod side_by_side;
 mod states_command;
 mod streams;
 mod text;
+mod unapplied;
 mod upgrade_command;
 mod version_command;
 mod whole;

@@ -15,7 +15,7 @@ use crate::streams::Streams;
 use audit::AllFaults;
 use gtid_report::{Fault, is_assuming, push_conditions, render_verdict, render_verdict_on};
 use gtid_text::{Span, write_span};
-use serving::faults_over;
+use serving::faults_known;
 use std::alloc::{AllocError, Global};
 use std::mem;
 use txn_journal::Bundle;
@@ -102,7 +102,7 @@ impl Request for List {
     ghost may_fail = { λ _ b. IsFaultsFault b };
 
     fn answer(&self, alloc: Global, bundle: &Bundle) -> Result<Answer, Fault> {
-        let all = faults_over(alloc, bundle)?;
+        let all = faults_known(alloc, bundle)?;
         let answer = list_answer(alloc, bundle, &all);
         mem::forget(all);
         Ok(answer?)

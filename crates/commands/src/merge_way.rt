@@ -8,7 +8,7 @@ ghost use Rattle.rows.specs.Listing.{all_shown, rows_of};
 ghost use Rattle.rows.specs.Parts.{AreParts};
 ghost use Rattle.row_parts.specs.Listing.{rows_in_each};
 ghost use Rattle.gtid_report.specs.Assumed.{assumed};
-ghost use Rattle.commands.specs.Bundles.{printed_rows, printed_state, apply_answer};
+ghost use Rattle.commands.specs.Bundles.{printed_rows, printed_state, applied_answer, apply_answer};
 
 use crate::answer::Answer;
 use crate::applied_answer::{first_lines, state_answer, unsound_answer};
@@ -16,6 +16,7 @@ use crate::audit_command::sound_ending;
 use crate::pieces::Text;
 use crate::printing::render_beside;
 use crate::side_by_side::serve_beside;
+use crate::unapplied::{rows_line, unapplied_answer};
 use gtid_report::Fault;
 use gtid_set::GtidSet;
 use journal::{Entry, Journal};
@@ -71,7 +72,7 @@ fn merged_answer(
     merged: &StateOrVerdict<Core>,
 ) -> Result<Answer, AllocError>
     requires { IsStateOrVerdict (HasMerged order bundle.now) order bundle.now merged.now }
-    ensures { IfOk result (λ answer. Holds answer (apply_answer order bundle.now)) }
+    ensures { IfOk result (λ answer. Holds answer (applied_answer order bundle.now)) }
 {
     match merged {
         StateOrVerdict::State(core) => state_answer(alloc, bundle, core),
@@ -136,7 +137,7 @@ fn hold(
 
 /// Audits and applies a bundle on the calling thread.
 fn apply_alone(alloc: Global, bundle: &Bundle, order: Order) -> Result<KeptAnswer, Fault>
-    ensures comes { IfOk result (λ held. Holds held.answer (apply_answer order bundle.now)) }
+    ensures comes { IfOk result (λ held. Holds held.answer (applied_answer order bundle.now)) }
     ensures fault { IfErr result (GivesUp (IsBundleFault bundle.now)) }
 {
     let merged = serve(alloc, bundle, order)?;
@@ -151,7 +152,7 @@ fn apply_beside<R: Threads>(
     bundle: &Bundle,
     order: Order,
 ) -> Result<KeptAnswer, Fault>
-    ensures comes { IfOk result (λ held. Holds held.answer (apply_answer order bundle.now)) }
+    ensures comes { IfOk result (λ held. Holds held.answer (applied_answer order bundle.now)) }
     ensures fault { IfErr result (GivesUp (IsBundleFault bundle.now)) }
 {
     let merged = serve_beside(rt, alloc, bundle, order)?;
@@ -170,7 +171,7 @@ fn apply_by_shares<R: Threads + Sync>(
     workers: u8,
 ) -> Result<Option<KeptAnswer>, AllocError>
     requires { 1 ≤ workers }
-    ensures { IfOk result (λ found. IfSome found (λ held. Holds held.answer (apply_answer BySource bundle.now))) }
+    ensures { IfOk result (λ found. IfSome found (λ held. Holds held.answer (applied_answer BySource bundle.now))) }
 {
     keeps_servable(bundle);
     let most = usize::from(workers).min(MOST_SHARES);
@@ -202,7 +203,7 @@ fn apply_side_by_side<R: Threads + Sync>(
     workers: u8,
 ) -> Result<KeptAnswer, Fault>
     requires { 1 ≤ workers }
-    ensures comes { IfOk result (λ held. Holds held.answer (apply_answer order bundle.now)) }
+    ensures comes { IfOk result (λ held. Holds held.answer (applied_answer order bundle.now)) }
     ensures fault { IfErr result (GivesUp (IsBundleFault bundle.now)) }
 {
     if let Order::BySource = order {
@@ -214,7 +215,7 @@ fn apply_side_by_side<R: Threads + Sync>(
     apply_beside(rt, alloc, bundle, order)
 }
 
-/// The result of a bundle, with what was made for it: by one thread, or by several at the same time.
+/// The result of a bundle whose opening rows are known, with what was made for it: by one thread, or by several at the same time.
 pub(crate) fn merge_held<R: Threads + Sync>(
     rt: &R,
     alloc: Global,
@@ -223,7 +224,7 @@ pub(crate) fn merge_held<R: Threads + Sync>(
     workers: u8,
 ) -> Result<KeptAnswer, Fault>
     requires { 1 ≤ workers }
-    ensures comes { IfOk result (λ held. Holds held.answer (apply_answer order bundle.now)) }
+    ensures comes { IfOk result (λ held. Holds held.answer (applied_answer order bundle.now)) }
     ensures fault { IfErr result (GivesUp (IsBundleFault bundle.now)) }
 {
     if workers == 1 {
@@ -250,6 +251,9 @@ pub fn merge_decoded<R: Threads + Sync>(
     ensures comes { IfOk result (λ answer. Holds answer (apply_answer order bundle.now)) }
     ensures fault { IfErr result (GivesUp (IsBundleFault bundle.now)) }
 {
+    if bundle.lacks_rows() {
+        return unapplied_answer(alloc, order, bundle, rows_line(bundle));
+    }
     let held = merge_held(rt, alloc, bundle, order, workers)?;
     Ok(held.free())
 }

@@ -4,11 +4,12 @@ ghost use Rattle.serving.specs.Faults.{IsBundleFault};
 ghost use Rattle.serving.specs.Verdicts.{IsConcluded, IsStateOrVerdict};
 ghost use Rattle.commands.specs.Applying.{IsWorked};
 ghost use Rattle.commands.specs.Printed.{Holds, GivesUp};
-ghost use Rattle.commands.specs.Bundles.{apply_answer};
+ghost use Rattle.commands.specs.Bundles.{applied_answer, apply_answer};
 
 use crate::answer::Answer;
 use crate::applied_answer::{state_answer, unsound_answer};
 use crate::parallel::{Worked, work_journals};
+use crate::unapplied::{rows_line, unapplied_answer};
 use applier::Gate;
 use gtid_report::Fault;
 use serving::{Order, StateOrVerdict};
@@ -25,7 +26,7 @@ pub(crate) fn worked_answer(
     worked: &Worked,
 ) -> Result<Answer, AllocError>
     requires { IsConcluded order bundle.now worked.now.book.now worked.now.verdict }
-    ensures { IfOk result (λ answer. Holds answer (apply_answer order bundle.now)) }
+    ensures { IfOk result (λ answer. Holds answer (applied_answer order bundle.now)) }
 {
     match &worked.verdict {
         None => state_answer(alloc, bundle, worked.book.state()),
@@ -41,7 +42,7 @@ fn found_answer(
     found: &StateOrVerdict<Worked>,
 ) -> Result<Answer, AllocError>
     requires { IsStateOrVerdict (IsWorked order bundle.now) order bundle.now found.now }
-    ensures { IfOk result (λ answer. Holds answer (apply_answer order bundle.now)) }
+    ensures { IfOk result (λ answer. Holds answer (applied_answer order bundle.now)) }
 {
     match found {
         StateOrVerdict::State(worked) => worked_answer(alloc, order, bundle, worked),
@@ -66,6 +67,9 @@ pub fn apply_decoded<G: Gate + Sync, R: Threads + Wait + Sync>(
     ensures comes { IfOk result (λ answer. Holds answer (apply_answer order bundle.now)) }
     ensures fault { IfErr result (GivesUp (IsBundleFault bundle.now)) }
 {
+    if bundle.lacks_rows() {
+        return unapplied_answer(alloc, order, bundle, rows_line(bundle));
+    }
     let found = work_journals(rt, alloc, bundle, order, workers, gate)?;
     let answer = found_answer(alloc, order, bundle, &found);
     drop(found);

@@ -9,7 +9,8 @@ ghost use Rattle.txn_journal.specs.BundleReaders.{bundle_reading};
 ghost use Rattle.txn_journal.specs.BundleReading.{closing_bundle};
 ghost use Rattle.txn_journal.specs.declared.lines.Due.TheVariants.{Only, BeforeThree};
 ghost use Rattle.txn_journal.specs.declared.lines.Version.TheVariants.{One};
-ghost use Rattle.commands.specs.Bundles.{ParsesAsBundle, ParsesBy, bundle_in, bundle_by};
+ghost use Rattle.commands.specs.Parsing.{ParsesAsBundle, ParsesBy, bundle_in, bundle_by};
+ghost use Rattle.commands.specs.Counted.{ParsesAsCounted, counted_in};
 ghost use Rattle.commands.specs.Positions.{ParsesAsJournal, journal_in};
 ghost use Rattle.commands.specs.Texts.{IsTextOf};
 ghost use Rattle.parallel_reading.specs.Coming.{HasCome};
@@ -72,6 +73,41 @@ impl Text for Bundle {
 
     fn finish(_: Global, reader: BundleReader) -> Result<Bundle, JournalFault> {
         finish_or_leave(reader)
+    }
+}
+
+/// A bundle, and how many lines its text has.
+#[derive(Drop)]
+pub(crate) struct CountedBundle {
+    pub(crate) bundle: Bundle,
+    pub(crate) lines: u64,
+}
+
+impl Text for CountedBundle {
+    ghost parses = { ParsesAsCounted };
+
+    ghost decoded = { counted_in };
+
+    ghost full = { λ bytes f h. h };
+
+    type Reader = BundleReader;
+
+    ghost has_come = { HasCome };
+
+    fn start(alloc: Global) -> BundleReader {
+        BundleReader::start(alloc)
+    }
+
+    fn feed(alloc: Global, reader: &mut BundleReader, piece: &[u8]) -> Result<(), AllocError> {
+        <Bundle as Text>::feed(alloc, reader, piece)
+    }
+
+    fn finish(_: Global, reader: BundleReader) -> Result<CountedBundle, JournalFault> {
+        let lines = reader.lines();
+        match finish_or_leave(reader) {
+            Ok(bundle) => Ok(CountedBundle { bundle, lines }),
+            Err(fault) => Err(fault),
+        }
     }
 }
 

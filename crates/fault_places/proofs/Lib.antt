@@ -2,5 +2,8 @@ mod Inversions
 mod Finding
 mod Told
 mod FirstDifference
+mod FirstWords
+mod Hiding
+mod LineLeft
 mod Within
 mod Worded

@@ -53,7 +53,8 @@ journal_due Three = codes "journal 3"
 -- between entries
 abbrev pub entries_due : Version → List ℕ
 entries_due One = codes "txn <gtid>, or close"
-entries_due _ = codes "txn <gtid> <last_committed> <sequence_number>, or close"
+entries_due Two = codes "txn <gtid> <last_committed> <sequence_number>, or close"
+entries_due Three = codes "place <file> <position> <time> <server>, txn <gtid> <last_committed> <sequence_number>, or close"
 
 -- the lines that may come after a line that begins with this word
 unfoldable pub due_behind : Version → List ℕ → List ℕ
@@ -66,6 +67,7 @@ due_behind version word =
     else if bytes_eq word (codes "channel") then journal_due version
     else if bytes_eq word (codes "journal") then codes "previous <set>"
     else if bytes_eq word (codes "previous") || bytes_eq word (codes "end") then entries_due version
+    else if bytes_eq word (codes "place") then codes "txn <gtid> <last_committed> <sequence_number>"
     else if bytes_eq word (codes "txn") || (bytes_eq word (codes "ins") || (bytes_eq word (codes "upd") || bytes_eq word (codes "del"))) then
     codes "ins <table> <values>, upd <table> <values> | <values>, del <table> <values>, or end"
     else if bytes_eq word (codes "close") then channels_due version

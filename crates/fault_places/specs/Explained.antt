@@ -5,6 +5,7 @@ use Rattle.std.specs.Str.{bytes_eq}
 use Rattle.gtid_text.specs.declared.Gtid.{Gtid}
 use Rattle.gtid_text.specs.Canonical.{gtid_text}
 use Rattle.gtid_set.specs.Sets.{Gtids}
+use Rattle.rows.specs.declared.schema.Table.{Table}
 use Rattle.rows.specs.declared.change.Key.{Key}
 use Rattle.rows.specs.declared.change.RowFault.{RowFault}
 use Rattle.rows.specs.declared.change.RowFault.TheVariants.{RowMissing, RowDiffers, DuplicateKey}
@@ -17,10 +18,10 @@ use Rattle.gtid_report.specs.declared.refusal.LineCause.{LineCause}
 use Rattle.gtid_report.specs.declared.refusal.LineCause.TheVariants.{Keyword, Body, Limit, Schema, Stamp}
 use Rattle.gtid_report.specs.declared.refusal.Refusal.{Refusal}
 use Rattle.gtid_report.specs.declared.refusal.Refusal.TheVariants.{PoolFull, SourcesFull, Line, Truncated, Twice, Version}
-use Rattle.fault_places.specs.declared.wanted.Wanted.TheVariants.{Every, OfTable, Numbered, Nothing}
+use Rattle.fault_places.specs.declared.wanted.Wanted.TheVariants.{Every, OfTable, Numbered}
 use Rattle.fault_places.specs.Lines.{second_word, word_at, is_table, shorten}
 use Rattle.gtid_report.specs.Assumed.{is_implied}
-use Rattle.fault_places.specs.Places.{line_text, places_of, previous_sets}
+use Rattle.fault_places.specs.Places.{line_text, places_of, bare_places, previous_sets}
 use Rattle.fault_places.specs.AssumedPlaces.{assumed_places}
 use Rattle.fault_places.specs.Next.{next_there}
 use Rattle.fault_places.specs.Due.{line_at, due_at}
@@ -47,9 +48,9 @@ columns_from key n [] = []
 columns_from key n (line ∷ lines) = report_columns key n line ++ columns_from key (n + 1) lines
 
 -- the columns of a key, and the changes of two transactions in its table
-abbrev pub key_explained : Gtid → Gtid → Key → List (List ℕ) → List ℕ
-key_explained g h key lines =
-    columns_from key 1 lines ++ places_of (gtid_text g) (OfTable key.table) lines ++ places_of (gtid_text h) (OfTable key.table) lines
+abbrev pub key_explained : List Table → Gtid → Gtid → Key → List (List ℕ) → List ℕ
+key_explained tables g h key lines =
+    columns_from key 1 lines ++ places_of tables (gtid_text g) (OfTable key.table) lines ++ places_of tables (gtid_text h) (OfTable key.table) lines
 
 -- how many other GTIDs are missing, and which
 abbrev pub missing_text : Option Gtids → List ℕ
@@ -58,7 +59,7 @@ missing_text (Some gtids) = codes "  also missing: " ++ decimal (set.len gtids) 
 
 -- the places of the next number that is there
 abbrev pub next_places : Gtid → List (List ℕ) → List ℕ
-next_places g lines = codes "  next there:\n" ++ places_of (gtid_text g) Nothing lines
+next_places g lines = codes "  next there:\n" ++ bare_places (gtid_text g) lines
 
 abbrev pub next_text : Option Gtid → List (List ℕ) → List ℕ
 next_text None lines = []
@@ -72,14 +73,14 @@ row_fault_meaning (DuplicateKey change key) = codes "  E12: a row has this key o
 
 -- what explains a verdict on a bundle that rests on nothing, with the other missing GTIDs
 abbrev pub unconditional : List (List ℕ) → BundleValue → Option Gtids → Verdict → List ℕ
-unconditional lines b gtids (Unequal g) = places_of (gtid_text g) Every lines ++ difference_under g b
+unconditional lines b gtids (Unequal g) = places_of b.start.schema (gtid_text g) Every lines ++ difference_under g b
 unconditional lines b gtids (Purged i purged) = previous_sets lines
 unconditional lines b gtids (Missing g) = missing_text gtids ++ next_text (next_there b.opened g None b.journals) lines
-unconditional lines b gtids (Shared g h key) = key_explained g h key lines
-unconditional lines b gtids (Reordered g h key) = key_explained g h key lines
-unconditional lines b gtids (Concurrent g h key) = key_explained g h key lines
-unconditional lines b gtids (NotClosed g h) = places_of (gtid_text g) Every lines ++ places_of (gtid_text h) Every lines
-unconditional lines b gtids (DoesNotApply g fault) = row_fault_meaning fault ++ places_of (gtid_text g) (Numbered (row_fault_place fault).0) lines
+unconditional lines b gtids (Shared g h key) = key_explained b.start.schema g h key lines
+unconditional lines b gtids (Reordered g h key) = key_explained b.start.schema g h key lines
+unconditional lines b gtids (Concurrent g h key) = key_explained b.start.schema g h key lines
+unconditional lines b gtids (NotClosed g h) = places_of b.start.schema (gtid_text g) Every lines ++ places_of b.start.schema (gtid_text h) Every lines
+unconditional lines b gtids (DoesNotApply g fault) = row_fault_meaning fault ++ places_of b.start.schema (gtid_text g) (Numbered (row_fault_place fault).0) lines
 unconditional lines b gtids Sound = inverted_text lines b.channels (inverted_pair b)
 
 -- what the verdict rests on, and what explains it
@@ -110,7 +111,7 @@ abbrev pub refusal_explained : List (List ℕ) → Refusal → List ℕ
 refusal_explained lines (Line n cause) = faulty_line n lines ++ cause_text cause n lines
 refusal_explained lines (Truncated n) = faulty_line n lines ++ due_text n lines
 refusal_explained lines (Version n) = faulty_line n lines ++ due_text n lines
-refusal_explained lines (Twice g) = previous_sets lines ++ places_of (gtid_text g) Nothing lines
+refusal_explained lines (Twice g) = previous_sets lines ++ bare_places (gtid_text g) lines
 refusal_explained lines SourcesFull = codes "  a set has more than 65536 sources\n"
 refusal_explained lines PoolFull = codes "  a set has more than 4294967294 intervals\n"
 refusal_explained lines r = []

@@ -1,4 +1,6 @@
 pub mod Lines
+pub mod HiddenValues
+pub mod LeftOut
 pub mod Channels
 pub mod Places
 pub mod AssumedPlaces

@@ -16,9 +16,8 @@ use Rattle.txn_journal.specs.declared.bundle.BundleChannel.{BundleChannel}
 use Rattle.world.specs.Search.{or_next}
 use Rattle.fault_places.specs.declared.orders.Inversion.{Inversion}
 use Rattle.fault_places.specs.declared.orders.InvertedPair.{InvertedPair}
-use Rattle.fault_places.specs.declared.wanted.Wanted.TheVariants.{Nothing}
 use Rattle.fault_places.specs.Channels.{entries_of, label_at}
-use Rattle.fault_places.specs.Places.{places_of}
+use Rattle.fault_places.specs.Places.{bare_places}
 
 -- the numbers of the channels that preserve commit order; the first of these channels has number n
 abbrev pub preserving : ℕ → List BundleChannel → List ℕ
@@ -89,4 +88,4 @@ warning channels found =
 abbrev pub inverted_text : List (List ℕ) → List BundleChannel → Option InvertedPair → List ℕ
 inverted_text lines channels None = []
 inverted_text lines channels (Some found) =
-    warning channels found ++ places_of (gtid_text found.inversion.earlier) Nothing lines ++ places_of (gtid_text found.inversion.later) Nothing lines
+    warning channels found ++ bare_places (gtid_text found.inversion.earlier) lines ++ bare_places (gtid_text found.inversion.later) lines

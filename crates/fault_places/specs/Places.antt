@@ -1,11 +1,13 @@
 -- Where the transactions of a GTID are in the lines of a bundle.
 use Rattle.std.specs.Prelude.{ℕ, ◌+◌, ◌-◌, ◌==◌, ◌&&◌, Bool, true, false, List, [], ◌∷◌, ◌++◌, codes, decimal, if◌then◌else◌}
 use Rattle.std.specs.Str.{bytes_eq}
+use Rattle.rows.specs.declared.schema.Table.{Table}
 use Rattle.fault_places.specs.declared.standing.Standing.{Standing}
 use Rattle.fault_places.specs.declared.wanted.Wanted.{Wanted}
 use Rattle.fault_places.specs.declared.wanted.Wanted.TheVariants.{Every, OfTable, Numbered, Nothing}
 use Rattle.fault_places.specs.Channels.{label}
 use Rattle.fault_places.specs.Lines.{second_word, is_channel, is_previous, is_transaction, is_change, shorten}
+use Rattle.fault_places.specs.HiddenValues.{without_hidden}
 
 -- ---- the channel, entry and change of a line
 
@@ -44,9 +46,9 @@ abbrev pub entry_text : List ℕ → List ℕ → Standing → ℕ → List ℕ
 entry_text g name s n =
     codes "  " ++ g ++ codes ": " ++ channel_text name s ++ codes ", entry " ++ decimal s.entries ++ codes ", line " ++ decimal n ++ codes "\n"
 
--- a change, with its place in its transaction
-abbrev pub change_text : Standing → ℕ → List ℕ → List ℕ
-change_text s n line = codes "    change " ++ decimal s.changes ++ codes ", " ++ line_text n line
+-- a change without the values of the columns that these tables hide, with its place in its transaction
+abbrev pub change_text : List Table → Standing → ℕ → List ℕ → List ℕ
+change_text tables s n line = codes "    change " ++ decimal s.changes ++ codes ", " ++ line_text n (without_hidden tables line)
 
 -- a change is one of those that are wanted
 abbrev pub is_wanted : Wanted → ℕ → List ℕ → Bool
@@ -56,21 +58,25 @@ is_wanted (Numbered number) place line = place == number
 is_wanted Nothing place line = false
 
 -- for a transaction with this GTID its place, for its changes those that are wanted, and nothing for other lines
-abbrev pub report_entry : List ℕ → Wanted → List ℕ → Standing → ℕ → List ℕ → List ℕ
-report_entry g wanted name s n line =
+abbrev pub report_entry : List Table → List ℕ → Wanted → List ℕ → Standing → ℕ → List ℕ → List ℕ
+report_entry tables g wanted name s n line =
     if is_named g line then entry_text g name s n
-    else if s.inside && (is_change line && is_wanted wanted s.changes line) then change_text s n line
+    else if s.inside && (is_change line && is_wanted wanted s.changes line) then change_text tables s n line
     else []
 
 -- the same for line n and those after it
-abbrev pub report_entries : List ℕ → Wanted → List ℕ → Standing → ℕ → List (List ℕ) → List ℕ
-report_entries g wanted name s n [] = []
-report_entries g wanted name s n (line ∷ lines) =
-    report_entry g wanted name s n line ++ report_entries g wanted (channel_after name line) (after g s line) (n + 1) lines
+abbrev pub report_entries : List Table → List ℕ → Wanted → List ℕ → Standing → ℕ → List (List ℕ) → List ℕ
+report_entries tables g wanted name s n [] = []
+report_entries tables g wanted name s n (line ∷ lines) =
+    report_entry tables g wanted name s n line ++ report_entries tables g wanted (channel_after name line) (after g s line) (n + 1) lines
 
 -- each transaction with this GTID, with those of its changes that are wanted
-abbrev pub places_of : List ℕ → Wanted → List (List ℕ) → List ℕ
-places_of g wanted lines = report_entries g wanted [] at_start 1 lines
+abbrev pub places_of : List Table → List ℕ → Wanted → List (List ℕ) → List ℕ
+places_of tables g wanted lines = report_entries tables g wanted [] at_start 1 lines
+
+-- each transaction with this GTID, without its changes
+abbrev pub bare_places : List ℕ → List (List ℕ) → List ℕ
+bare_places g lines = places_of [] g Nothing lines
 
 -- ---- previous sets
 

@@ -103,7 +103,9 @@ fn entries_due(version: Version) -> &'static str
 {
     match version {
         Version::One => "txn <gtid>, or close",
-        Version::Two | Version::Three => "txn <gtid> <last_committed> <sequence_number>, or close",
+        Version::Two => "txn <gtid> <last_committed> <sequence_number>, or close",
+        Version::Three =>
+            "place <file> <position> <time> <server>, txn <gtid> <last_committed> <sequence_number>, or close",
     }
 }
 
@@ -128,6 +130,8 @@ fn due_behind(version: Version, word: &[u8]) -> &'static str
         "previous <set>"
     } else if word == b"previous".as_slice() || word == b"end".as_slice() {
         entries_due(version)
+    } else if word == b"place".as_slice() {
+        "txn <gtid> <last_committed> <sequence_number>"
     } else if word == b"txn".as_slice()
         || word == b"ins".as_slice()
         || word == b"upd".as_slice()

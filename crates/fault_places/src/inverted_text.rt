@@ -5,8 +5,7 @@ ghost use Rattle.fault_places.specs.Orders.{warning, inverted_pair, inverted_tex
 use crate::channels::put_label_at;
 use crate::lines::put;
 use crate::orders::{InvertedPair, inverted_pair};
-use crate::verdict_text::put_gtid;
-use crate::wanted::Wanted;
+use crate::verdict_text::put_bare;
 use std::alloc::{AllocError, Global};
 use txn_journal::{Bundle, BundleChannel};
 
@@ -43,14 +42,8 @@ fn put_found(
         return Ok(());
     };
     put_warning(out, channels, found)?;
-    put_gtid(
-        alloc,
-        out,
-        &found.inversion.earlier,
-        &Wanted::Nothing,
-        lines,
-    )?;
-    put_gtid(alloc, out, &found.inversion.later, &Wanted::Nothing, lines)
+    put_bare(alloc, out, &found.inversion.earlier, lines)?;
+    put_bare(alloc, out, &found.inversion.later, lines)
 }
 
 /// Appends the warning and the places for the first pair of channels that preserve commit order and bring two transactions in opposite

@@ -1,5 +1,12 @@
-//! The law of `inverted_pair`. The function's contract is the law, and its body is empty.
+//! The laws of `inverted_pair` and of `without_hidden`. A function's contract is the law, and its body is empty.
+ghost use Rattle.fault_places.specs.LeftOut.{HiddenValuesAreLeftOut};
 ghost use Rattle.fault_places.specs.TwoOrders.{TwoOrdersAreFound};
+
+/// Of the line of a change that the tables take, `explain_verdict` shows the first 120 bytes of what is the line of the change without the
+/// values that its table hides, which the lines of rows leave out too (`gtid_report`, `row_line`).
+pub fn hidden_values_are_left_out()
+    ensures { HiddenValuesAreLeftOut }
+{}
 
 /// For a sound bundle `explain_verdict` shows two channels and two transactions if and only if two channels that preserve commit order
 /// bring two transactions in opposite orders, and those that it shows are such. (No journal has a GTID twice: `Journal` keeps that.)

@@ -1,13 +1,13 @@
 //! The lines of an input, and their words.
-ghost use Rattle.std.specs.Prelude.{◌≡◌, ℕ, ◌==◌, ◌<◌, ◌≤◌, length, ◌++◌, IfOk, OnOk, map, codes, string_bytes, decimal};
-ghost use Rattle.std.specs.List.{flat_map, position_or_len};
+ghost use Rattle.std.specs.Prelude.{◌≡◌, ℕ, ◌==◌, ◌<◌, ◌≤◌, length, ◌++◌, IfOk, OnOk, map, take, codes, string_bytes, decimal};
+ghost use Rattle.std.specs.List.{flat_map, position_or_len, after_first};
 ghost use Rattle.fault_places.specs.Lines.{lines_of, first_word, behind_word, word_at, second_word, is_channel, is_previous, is_table, is_transaction, is_change, hex_digit, shown_byte, shorten};
 
 use itoa::Buffer;
 use std::alloc::{AllocError, Global};
 
 /// The most bytes of a line that are shown (our own rule).
-const MOST_SHOWN: usize = 120;
+pub(crate) const MOST_SHOWN: usize = 120;
 
 /// What is between the line feeds of a text, in order: line n, counted from 1, is the n-th.
 pub(crate) fn lines_of(alloc: Global, bytes: &[u8]) -> Result<Vec<&[u8]>, AllocError>
@@ -16,36 +16,43 @@ pub(crate) fn lines_of(alloc: Global, bytes: &[u8]) -> Result<Vec<&[u8]>, AllocE
     bytes.split(|b| *b == b'\n').collect(alloc)
 }
 
-/// The place of the first blank, or the length.
-fn first_blank(line: &[u8]) -> usize
-    ensures place { result ≡ position_or_len (λ b. b == 32) line.now }
-    ensures within { result ≤ length line.now }
+/// The place of the first such byte, or the length.
+fn place_of(wanted: u8, text: &[u8]) -> usize
+    ensures place { result ≡ position_or_len (λ b. b == wanted) text.now }
+    ensures within { result ≤ length text.now }
 {
-    for (i, byte) in line.iter().enumerate() {
-        if *byte == b' ' {
+    for (i, byte) in text.iter().enumerate() {
+        if *byte == wanted {
             return i;
         }
     }
-    line.len()
+    text.len()
+}
+
+/// What comes after the first such byte.
+pub(crate) fn behind(wanted: u8, text: &[u8]) -> &[u8]
+    ensures { result.now ≡ after_first (λ b. b == wanted) text.now }
+{
+    let at = place_of(wanted, text);
+    if at < text.len() {
+        &text[at + 1..]
+    } else {
+        &[]
+    }
 }
 
 /// What comes before the first blank.
 pub(crate) fn first_word(line: &[u8]) -> &[u8]
     ensures { result.now ≡ first_word line.now }
 {
-    &line[..first_blank(line)]
+    &line[..place_of(b' ', line)]
 }
 
 /// What comes after the first blank.
-fn behind_word(line: &[u8]) -> &[u8]
+pub(crate) fn behind_word(line: &[u8]) -> &[u8]
     ensures { result.now ≡ behind_word line.now }
 {
-    let at = first_blank(line);
-    if at < line.len() {
-        &line[at + 1..]
-    } else {
-        &[]
-    }
+    behind(b' ', line)
 }
 
 /// The word after this many others.
@@ -136,7 +143,7 @@ fn put_byte(out: &mut Vec<u8>, byte: u8) -> Result<(), AllocError>
 }
 
 /// Appends bytes, those that are no printed characters by their hexadecimal digits.
-fn put_bytes(out: &mut Vec<u8>, bytes: &[u8]) -> Result<(), AllocError>
+pub(crate) fn put_bytes(out: &mut Vec<u8>, bytes: &[u8]) -> Result<(), AllocError>
     ensures { OnOk result (out.new.items ≡ out.old.items ++ flat_map shown_byte bytes.now) }
 {
     for byte in bytes {
@@ -145,13 +152,20 @@ fn put_bytes(out: &mut Vec<u8>, bytes: &[u8]) -> Result<(), AllocError>
     Ok(())
 }
 
+/// Appends the first bytes of a text, at most this many.
+pub(crate) fn put_first(out: &mut Vec<u8>, most: usize, text: &[u8]) -> Result<(), AllocError>
+    ensures { OnOk result (out.new.items ≡ out.old.items ++ flat_map shown_byte (take most text.now)) }
+{
+    if text.len() < most {
+        put_bytes(out, text)
+    } else {
+        put_bytes(out, &text[..most])
+    }
+}
+
 /// Appends the first bytes of a line.
 pub fn put_shown(out: &mut Vec<u8>, line: &[u8]) -> Result<(), AllocError>
     ensures { OnOk result (out.new.items ≡ out.old.items ++ shorten line.now) }
 {
-    if line.len() < MOST_SHOWN {
-        put_bytes(out, line)
-    } else {
-        put_bytes(out, &line[..MOST_SHOWN])
-    }
+    put_first(out, MOST_SHOWN, line)
 }

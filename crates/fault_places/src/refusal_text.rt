@@ -6,8 +6,7 @@ ghost use Rattle.fault_places.specs.Explained.{due_text, cause_text, faulty_line
 use crate::due::{due_at, line_at};
 use crate::lines::{lines_of, put};
 use crate::places::{put_line, put_previous_sets};
-use crate::verdict_text::put_gtid;
-use crate::wanted::Wanted;
+use crate::verdict_text::put_bare;
 use gtid_report::{LineCause, Refusal};
 use std::alloc::{AllocError, Global};
 
@@ -82,7 +81,7 @@ fn put_refusal(
         Refusal::Version(number) => put_misplaced(out, *number as usize, lines),
         Refusal::Twice(gtid) => {
             put_previous_sets(out, lines)?;
-            put_gtid(alloc, out, gtid, &Wanted::Nothing, lines)
+            put_bare(alloc, out, gtid, lines)
         }
         Refusal::SourcesFull => put(out, "  a set has more than 65536 sources\n"),
         Refusal::PoolFull => put(out, "  a set has more than 4294967294 intervals\n"),

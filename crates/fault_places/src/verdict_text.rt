@@ -4,7 +4,7 @@ ghost use Rattle.gtid_text.specs.Canonical.{gtid_text};
 ghost use Rattle.gtid_report.specs.Verdicts.{row_fault_place};
 ghost use Rattle.fault_places.specs.declared.wanted.Wanted.TheVariants.{Numbered};
 ghost use Rattle.fault_places.specs.Lines.{lines_of};
-ghost use Rattle.fault_places.specs.Places.{places_of};
+ghost use Rattle.fault_places.specs.Places.{places_of, bare_places};
 ghost use Rattle.fault_places.specs.Explained.{is_of_key, columns_text, report_columns, columns_from, key_explained, missing_text, next_places, next_text, row_fault_meaning, unconditional, verdict_explained};
 
 use crate::assumed_places::put_assumed;
@@ -18,25 +18,40 @@ use gtid_report::{is_implied, push_set};
 use gtid_set::GtidSet;
 use gtid_text::{Gtid, write_gtid};
 use itoa::Buffer;
-use rows::{Key, RowFault};
+use rows::{Key, RowFault, Schema};
 use std::alloc::{AllocError, Global};
 use txn_journal::Bundle;
 use world::Verdict;
 
-/// The places of a GTID.
-pub(crate) fn put_gtid(
+/// The places of a GTID, with those of its changes that are wanted.
+fn put_gtid(
     alloc: Global,
     out: &mut Vec<u8>,
+    schema: &Schema,
     gtid: &Gtid,
     wanted: &Wanted,
     lines: &[&[u8]],
 ) -> Result<(), AllocError>
     requires { length lines.now < 2 ^ 63 }
-    ensures { OnOk result (out.new.items ≡ out.old.items ++ places_of (gtid_text gtid.now) wanted.now (map (λ x. x.now) lines.now)) }
+    ensures { OnOk result (out.new.items ≡ out.old.items ++ places_of schema.now (gtid_text gtid.now) wanted.now (map (λ x. x.now) lines.now)) }
 {
     let mut text = String::new(alloc);
     write_gtid(&mut text, *gtid)?;
-    put_places(out, text.as_bytes(), wanted, lines)
+    put_places(alloc, out, schema, text.as_bytes(), wanted, lines)
+}
+
+/// The places of a GTID, without its changes.
+pub(crate) fn put_bare(
+    alloc: Global,
+    out: &mut Vec<u8>,
+    gtid: &Gtid,
+    lines: &[&[u8]],
+) -> Result<(), AllocError>
+    requires { length lines.now < 2 ^ 63 }
+    ensures { OnOk result (out.new.items ≡ out.old.items ++ bare_places (gtid_text gtid.now) (map (λ x. x.now) lines.now)) }
+{
+    let schema = Schema::empty(alloc);
+    put_gtid(alloc, out, &schema, gtid, &Wanted::Nothing, lines)
 }
 
 /// Whether a line is that of a key's table.
@@ -93,18 +108,19 @@ fn put_columns(out: &mut Vec<u8>, key: &Key, lines: &[&[u8]]) -> Result<(), Allo
 fn put_key(
     alloc: Global,
     out: &mut Vec<u8>,
+    schema: &Schema,
     first: &Gtid,
     second: &Gtid,
     key: &Key,
     lines: &[&[u8]],
 ) -> Result<(), AllocError>
     requires { length lines.now < 2 ^ 63 }
-    ensures { OnOk result (out.new.items ≡ out.old.items ++ key_explained first.now second.now key.now (map (λ x. x.now) lines.now)) }
+    ensures { OnOk result (out.new.items ≡ out.old.items ++ key_explained schema.now first.now second.now key.now (map (λ x. x.now) lines.now)) }
 {
     let wanted = Wanted::OfTable(key.table.clone()?);
     put_columns(out, key, lines)?;
-    put_gtid(alloc, out, first, &wanted, lines)?;
-    put_gtid(alloc, out, second, &wanted, lines)
+    put_gtid(alloc, out, schema, first, &wanted, lines)?;
+    put_gtid(alloc, out, schema, second, &wanted, lines)
 }
 
 /// How many other GTIDs are missing, and which.
@@ -135,7 +151,7 @@ fn put_next_places(
     ensures { OnOk result (out.new.items ≡ out.old.items ++ next_places gtid.now (map (λ x. x.now) lines.now)) }
 {
     put(out, "  next there:\n")?;
-    put_gtid(alloc, out, gtid, &Wanted::Nothing, lines)
+    put_bare(alloc, out, gtid, lines)
 }
 
 /// The places of the next number that is there, where there is one.
@@ -171,12 +187,13 @@ fn row_fault_meaning(fault: &RowFault) -> &'static str
 fn put_row_fault(
     alloc: Global,
     out: &mut Vec<u8>,
+    schema: &Schema,
     gtid: &Gtid,
     fault: &RowFault,
     lines: &[&[u8]],
 ) -> Result<(), AllocError>
     requires { length lines.now < 2 ^ 63 }
-    ensures { OnOk result (out.new.items ≡ out.old.items ++ row_fault_meaning fault.now ++ places_of (gtid_text gtid.now) (Numbered (row_fault_place fault.now).0) (map (λ x. x.now) lines.now)) }
+    ensures { OnOk result (out.new.items ≡ out.old.items ++ row_fault_meaning fault.now ++ places_of schema.now (gtid_text gtid.now) (Numbered (row_fault_place fault.now).0) (map (λ x. x.now) lines.now)) }
 {
     put(out, row_fault_meaning(fault))?;
     let change = match fault {
@@ -184,7 +201,7 @@ fn put_row_fault(
         RowFault::RowDiffers { change, .. } => *change,
         RowFault::DuplicateKey { change, .. } => *change,
     };
-    put_gtid(alloc, out, gtid, &Wanted::Numbered(change), lines)
+    put_gtid(alloc, out, schema, gtid, &Wanted::Numbered(change), lines)
 }
 
 /// What explains a verdict, but for what it rests on.
@@ -199,9 +216,10 @@ fn put_unconditional(
     requires { length lines.now < 2 ^ 63 }
     ensures { OnOk result (out.new.items ≡ out.old.items ++ unconditional (map (λ x. x.now) lines.now) bundle.now missing.now verdict.now) }
 {
+    let schema = bundle.schema();
     match verdict {
         Verdict::Unequal(gtid) => {
-            put_gtid(alloc, out, gtid, &Wanted::Every, lines)?;
+            put_gtid(alloc, out, schema, gtid, &Wanted::Every, lines)?;
             put_difference(alloc, out, gtid, bundle)
         }
         Verdict::Purged(_, _) => put_previous_sets(out, lines),
@@ -212,12 +230,12 @@ fn put_unconditional(
         }
         Verdict::Shared(a, b, key)
         | Verdict::Reordered(a, b, key)
-        | Verdict::Concurrent(a, b, key) => put_key(alloc, out, a, b, key, lines),
+        | Verdict::Concurrent(a, b, key) => put_key(alloc, out, schema, a, b, key, lines),
         Verdict::NotClosed(a, b) => {
-            put_gtid(alloc, out, a, &Wanted::Every, lines)?;
-            put_gtid(alloc, out, b, &Wanted::Every, lines)
+            put_gtid(alloc, out, schema, a, &Wanted::Every, lines)?;
+            put_gtid(alloc, out, schema, b, &Wanted::Every, lines)
         }
-        Verdict::DoesNotApply(gtid, fault) => put_row_fault(alloc, out, gtid, fault, lines),
+        Verdict::DoesNotApply(gtid, fault) => put_row_fault(alloc, out, schema, gtid, fault, lines),
         Verdict::Sound => put_inverted(alloc, out, bundle, lines),
     }
 }
@@ -240,7 +258,7 @@ fn put_verdict(
 
 /// What explains a verdict on a bundle, whose text these bytes are: lines, each after two blanks and ended by a line feed. For each GTID
 /// that the verdict names there is each transaction, with its channel and its entry, counted from 0, and its line, counted from 1; after
-/// it its changes: for a shared key those in the key's table, for a row fault the one that has it. If two transactions have one GTID, the
+/// it its changes, without the values of hidden columns: for a shared key those in the key's table, for a row fault the one that has it. If two transactions have one GTID, the
 /// first difference between them follows: the change, the image and the column, counted from 0, and both values. For other missing GTIDs,
 /// where they are given, there is their number and their set. If the bundle is sound but two channels that preserve commit order bring two
 /// transactions in opposite orders, there are the places of both. Where the verdict rests on something that the bundle doesn't show, the

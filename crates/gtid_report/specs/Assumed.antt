@@ -1,7 +1,7 @@
 -- What a verdict on a bundle rests on, as it is printed. The words and their order are our own.
 use Rattle.std.specs.Prelude.{ℕ, Bool, true, false, not, ◌&&◌, nat_lt, List, [], ◌∷◌, ◌++◌, length, codes, flat_map, if◌then◌else◌}
 use Rattle.std.specs.List.{list_any}
-use Rattle.txn_journal.specs.Assumptions.{assumption_text}
+use Rattle.txn_journal.specs.Assumptions.{assumption_text, says_rows}
 use Rattle.txn_journal.specs.BundleStates.{BundleValue}
 use Rattle.txn_journal.specs.declared.assumptions.Assumption.{Assumption}
 use Rattle.txn_journal.specs.declared.assumptions.Assumption.TheVariants.{References}
@@ -17,13 +17,14 @@ says_references _ = false
 abbrev pub is_implied : BundleValue → Bool
 is_implied b = nat_lt 0 (length b.references) && not (list_any says_references b.assumptions)
 
-abbrev pub implied : Bool → List Assumption
-implied true = References ∷ []
-implied false = []
+-- with `references` in its place: `rows` alone comes after it
+abbrev pub with_references : List Assumption → List Assumption
+with_references [] = References ∷ []
+with_references (a ∷ said) = if says_rows a then References ∷ a ∷ said else a ∷ with_references said
 
 -- what a verdict on the bundle rests on, in the order of the lines
 abbrev pub assumed : BundleValue → List Assumption
-assumed b = b.assumptions ++ implied (is_implied b)
+assumed b = if is_implied b then with_references b.assumptions else b.assumptions
 
 -- ---- as text
 

@@ -6,4 +6,5 @@ pub mod Verdicts
 pub mod State
 pub mod VerdictLines
 pub mod Assumed
+pub mod Joined
 pub mod Positions

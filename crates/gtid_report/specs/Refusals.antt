@@ -1,8 +1,8 @@
--- The printed line of each refusal. The numbers E2 to E30, the words and their order are our own.
+-- The printed line of each refusal. The numbers E2 to E31, the words and their order are our own.
 use Rattle.std.specs.Prelude.{ℕ, List, [], ◌∷◌, ◌++◌, codes, decimal}
 use Rattle.gtid_text.specs.Canonical.{gtid_text}
 use Rattle.gtid_report.specs.declared.refusal.Refusal.{Refusal}
-use Rattle.gtid_report.specs.declared.refusal.Refusal.TheVariants.{BadUuid, NoInterval, BadNumber, NumberRange, Reversed, Stray, PoolFull, SourcesFull, Line, Truncated, Twice, Version, Usage}
+use Rattle.gtid_report.specs.declared.refusal.Refusal.TheVariants.{BadUuid, NoInterval, BadNumber, NumberRange, Reversed, Stray, PoolFull, SourcesFull, Line, Truncated, Twice, Version, Usage, NoRows}
 use Rattle.gtid_report.specs.declared.refusal.LineCause.{LineCause}
 use Rattle.gtid_report.specs.declared.refusal.LineCause.TheVariants.{Keyword, Body, Limit, Schema, Stamp}
 
@@ -29,6 +29,7 @@ refusal_name (Truncated line) = codes "E15 truncated at line "
 refusal_name (Twice gtid) = codes "E16 twice "
 refusal_name (Version line) = codes "E17 version at line "
 refusal_name Usage = codes "E30 usage"
+refusal_name (NoRows line) = codes "E31 no-rows at line "
 
 -- where it is, or what
 abbrev pub refusal_place : Refusal → List ℕ
@@ -45,6 +46,7 @@ refusal_place (Truncated line) = decimal line
 refusal_place (Twice gtid) = gtid_text gtid
 refusal_place (Version line) = decimal line
 refusal_place Usage = []
+refusal_place (NoRows line) = decimal line
 
 abbrev pub refusal_line : Refusal → List ℕ
 refusal_line r = codes "refused " ++ refusal_name r ++ refusal_place r

@@ -31,6 +31,8 @@ pub enum Refusal {
     Twice(Gtid),
     Version(u64),
     Usage,
+    /// Changes can't be applied, for this line says that the opening rows aren't known.
+    NoRows(u64),
 }
 
 fn cause_word(cause: LineCause) -> &'static str
@@ -62,6 +64,7 @@ fn refusal_name(refusal: &Refusal) -> &'static str
         Refusal::Twice(_) => "E16 twice ",
         Refusal::Version(_) => "E17 version at line ",
         Refusal::Usage => "E30 usage",
+        Refusal::NoRows(_) => "E31 no-rows at line ",
     }
 }
 
@@ -95,6 +98,7 @@ fn push_place(out: &mut String, refusal: &Refusal) -> Result<(), AllocError>
         Refusal::Twice(gtid) => write_gtid(out, *gtid),
         Refusal::Version(line) => push_number(out, *line),
         Refusal::Usage => Ok(()),
+        Refusal::NoRows(line) => push_number(out, *line),
     }
 }
 

@@ -1,17 +1,16 @@
 ghost use Rattle.std.specs.Prelude.{◌≡◌, ◌++◌, ◌≤◌, List, Some, IfOk, IfSome, OnOk, length, take, string_bytes};
 ghost use Rattle.std.specs.Option.{option_copied};
-ghost use Rattle.gtid_text.specs.Canonical.{spans_text};
-ghost use Rattle.txn_journal.specs.WrittenSets.{spans_word, set_text};
+ghost use Rattle.txn_journal.specs.WrittenSets.{set_text};
 ghost use Rattle.rows.specs.declared.schema.Table.{Table};
 ghost use Rattle.rows.specs.Keys.{find_table};
 ghost use Rattle.rows.specs.Listing.{all_shown, rows_of};
 ghost use Rattle.gtid_report.specs.State.{values_text, shown_values, row_line, rows_text, hides_columns, ShowAlike, executed_line, state_text};
 
 use gtid_set::GtidSet;
-use gtid_text::{Span, write_next_span};
 use row_images::write_value;
 use rows::{Key, Name, Row, Rows, Schema, Table, TableRow, Value};
 use std::alloc::{AllocError, Global};
+use txn_journal::write_spans_word;
 
 /// The words of values, each after a blank.
 pub(crate) fn push_values(
@@ -160,33 +159,12 @@ pub fn render_rows(out: &mut String, schema: &Schema, rows: &[TableRow]) -> Resu
     Ok(())
 }
 
-/// Intervals, each after the one before.
-fn push_spans(out: &mut String, spans: &[Span]) -> Result<(), AllocError>
-    ensures { OnOk result (string_bytes out.new ≡ string_bytes out.old ++ spans_text spans.now) }
-{
-    let mut before = None;
-    for span in spans {
-        write_next_span(out, before, *span)?;
-        before = Some(span.source);
-    }
-    Ok(())
-}
-
-fn push_word(out: &mut String, spans: &[Span]) -> Result<(), AllocError>
-    ensures { OnOk result (string_bytes out.new ≡ string_bytes out.old ++ spans_word spans.now) }
-{
-    if spans.is_empty() {
-        return out.push_str("-");
-    }
-    push_spans(out, spans)
-}
-
 /// Appends the word of a set: its canonical text, or `-` if it is empty.
 pub fn push_set(alloc: Global, out: &mut String, set: &GtidSet) -> Result<(), AllocError>
     ensures { OnOk result (string_bytes out.new ≡ string_bytes out.old ++ set_text set.now) }
 {
     let spans = set.spans(alloc)?;
-    push_word(out, &spans)
+    write_spans_word(out, &spans)
 }
 
 /// The line of an executed set, `-` if it is empty.

@@ -111,7 +111,7 @@ fn are_tidy(spans: &[Span]) -> bool
 }
 
 /// Appends the one text of spans.
-fn write_spans(out: &mut String, spans: &[Span]) -> Result<(), AllocError>
+pub fn write_spans(out: &mut String, spans: &[Span]) -> Result<(), AllocError>
     ensures { OnOk result (string_bytes out.new ≡ string_bytes out.old ++ spans_text spans.now) }
 {
     let mut before = None;
@@ -143,8 +143,8 @@ fn as_spans(alloc: Global, word: &[u8], spans: Vec<Span>) -> Result<Option<Vec<S
     Ok(Some(spans))
 }
 
-/// The spans that the word parses as. `-` parses as none.
-fn spans_word(alloc: Global, word: &[u8]) -> Result<Option<Vec<Span>>, AllocError>
+/// The spans that the word parses as, each after the one before it. `-` parses as none.
+pub fn spans_word(alloc: Global, word: &[u8]) -> Result<Option<Vec<Span>>, AllocError>
     ensures { IfOk result (λ found. option_map (λ v. v.items) found ≡ spans_of_word word.now) }
 {
     if word == b"-".as_slice() {

@@ -10,4 +10,4 @@
 mod gtids;
 mod one_pass;
 
-pub use gtids::{gtid_word, set_word, source_word};
+pub use gtids::{gtid_word, set_word, source_word, spans_word, write_spans};

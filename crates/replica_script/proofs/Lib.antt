@@ -4,3 +4,4 @@ pub mod DistinctSources
 pub mod ReadBack
 pub mod Answered
 pub mod Runs
+pub mod Versions

@@ -5,6 +5,7 @@ use Rattle.row_images.specs.Words.{first_word, count_of}
 use Rattle.row_images.proofs.Counts.{first_word-front, others-front, first_word-whole, others-whole, decimal_lacks, count_again}
 use Rattle.replica_core.specs.declared.event.Event.TheVariants.{Take, Commit, Rollback}
 use Rattle.replica_lines.specs.Events.{event_line}
+use Rattle.txn_journal.specs.declared.lines.Version.{Version}
 use Rattle.replica_script.specs.declared.question.Question.TheVariants.{Event}
 use Rattle.replica_script.specs.Questions.{question_of, seat, with_one, with_three, behind_one, behind_two, with_numbers}
 
@@ -31,16 +32,16 @@ third_alone word first second n fits = ap (option_and_then (with_three word firs
 same_seat : (n : ℕ) → n < 2 ^ 8 → seat n ≡ n
 same_seat n fits = grind arith
 
-pub take_again : (n channel place : ℕ) → n < 2 ^ 8 → channel < 2 ^ 64 → place < 2 ^ 64 → question_of (event_line (Take n channel place)) ≡ Some (Event (Take n channel place))
-take_again n channel place few c p =
+pub take_again : (n channel place : ℕ) → n < 2 ^ 8 → channel < 2 ^ 64 → place < 2 ^ 64 → (version : Version) → question_of version (event_line (Take n channel place)) ≡ Some (Event (Take n channel place))
+take_again n channel place few c p version =
     ap (with_numbers (codes "take")) (append_assoc (decimal n) (32 ∷ decimal channel) (32 ∷ decimal place))
     ∙ numbers_before (codes "take") n (decimal channel ++ 32 ∷ decimal place) (omega arith)
     ∙ second_before (codes "take") n channel (decimal place) c
     ∙ third_alone (codes "take") n channel place p
     ∙ ap (λ (s : ℕ). Some (Event (Take s channel place))) (same_seat n few)
 
-pub commit_again : (n : ℕ) → n < 2 ^ 8 → question_of (event_line (Commit n)) ≡ Some (Event (Commit n))
-commit_again n few = numbers_alone (codes "commit") n (omega arith) ∙ ap (λ (s : ℕ). Some (Event (Commit s))) (same_seat n few)
+pub commit_again : (n : ℕ) → n < 2 ^ 8 → (version : Version) → question_of version (event_line (Commit n)) ≡ Some (Event (Commit n))
+commit_again n few version = numbers_alone (codes "commit") n (omega arith) ∙ ap (λ (s : ℕ). Some (Event (Commit s))) (same_seat n few)
 
-pub rollback_again : (n : ℕ) → n < 2 ^ 8 → question_of (event_line (Rollback n)) ≡ Some (Event (Rollback n))
-rollback_again n few = numbers_alone (codes "rollback") n (omega arith) ∙ ap (λ (s : ℕ). Some (Event (Rollback s))) (same_seat n few)
+pub rollback_again : (n : ℕ) → n < 2 ^ 8 → (version : Version) → question_of version (event_line (Rollback n)) ≡ Some (Event (Rollback n))
+rollback_again n few version = numbers_alone (codes "rollback") n (omega arith) ∙ ap (λ (s : ℕ). Some (Event (Rollback s))) (same_seat n few)

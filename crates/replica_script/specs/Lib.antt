@@ -9,3 +9,4 @@ pub mod Messages
 pub mod Told
 pub mod Answering
 pub mod Laws
+pub mod Preambles

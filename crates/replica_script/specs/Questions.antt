@@ -1,20 +1,23 @@
 -- What a line asks of a replica. The words are our own.
-use Rattle.std.specs.Prelude.{ℕ, min, List, Option, Some, None, option_and_then, codes, if◌then◌else◌}
+use Rattle.std.specs.Prelude.{ℕ, min, Bool, true, false, List, Option, Some, None, option_map, option_and_then, codes, if◌then◌else◌}
 use Rattle.std.specs.Str.{bytes_eq}
 use Rattle.row_images.specs.Words.{first_word, others, count_of}
+use Rattle.txn_journal.specs.Versions.{limits_of}
+use Rattle.txn_journal.specs.Words.{name_of}
+use Rattle.txn_journal.specs.declared.lines.Version.{Version}
 use Rattle.replica_core.specs.declared.event.Event.TheVariants as event
 use Rattle.replica_script.specs.declared.question.Question.{Question}
 use Rattle.replica_script.specs.declared.question.Question.TheVariants.{Event, Query}
 use Rattle.replica_script.specs.declared.question.Query.TheVariants as query
 
--- the question that is one word
-abbrev pub question_alone : List ℕ → Option Question
-question_alone word =
+-- the question that is one word; a journal is shown by this version
+abbrev pub question_alone : Version → List ℕ → Option Question
+question_alone version word =
     if bytes_eq word (codes "look") then Some (Event event.Look)
     else if bytes_eq word (codes "rows") then Some (Query query.Rows)
     else if bytes_eq word (codes "executed") then Some (Query query.Executed)
     else if bytes_eq word (codes "purged") then Some (Query query.Purged)
-    else if bytes_eq word (codes "journal") then Some (Query query.Journal)
+    else if bytes_eq word (codes "journal") then Some (Query (query.Journal version))
     else if bytes_eq word (codes "drained") then Some (Query query.Drained)
     else if bytes_eq word (codes "status") then Some (Query query.Status)
     else None
@@ -58,10 +61,22 @@ behind_one word (Some rest) first = option_and_then (behind_two word first (othe
 abbrev pub with_numbers : List ℕ → List ℕ → Option Question
 with_numbers word rest = option_and_then (behind_one word (others rest)) (count_of (first_word rest))
 
--- the question that a line is, by its first word and what is behind it; the lines that open a channel or begin a transaction are none of these
-abbrev pub question_behind : List ℕ → Option (List ℕ) → Option Question
-question_behind word None = question_alone word
-question_behind word (Some rest) = with_numbers word rest
+-- whether a channel preserves order, by the words after its name
+abbrev pub preserves : Option (List ℕ) → Option Bool
+preserves None = Some false
+preserves (Some word) = if bytes_eq word (codes "preserve") then Some true else None
 
-abbrev pub question_of : List ℕ → Option Question
-question_of line = question_behind (first_word line) (others line)
+-- the opening of a channel, whose name is one of this version
+abbrev pub opening_of : Version → List ℕ → Bool → Option Question
+opening_of version word preserve = option_map (λ name. Event (event.OpenChannel name preserve)) (name_of (limits_of version) word)
+
+abbrev pub channel_of : Version → List ℕ → Option Question
+channel_of version rest = option_and_then (opening_of version (first_word rest)) (preserves (others rest))
+
+-- the question that a line is, by its first word and what is behind it; the lines that begin a transaction are none of these
+abbrev pub question_behind : Version → List ℕ → Option (List ℕ) → Option Question
+question_behind version word None = question_alone version word
+question_behind version word (Some rest) = if bytes_eq word (codes "channel") then channel_of version rest else with_numbers word rest
+
+abbrev pub question_of : Version → List ℕ → Option Question
+question_of version line = question_behind version (first_word line) (others line)

@@ -7,7 +7,9 @@ use Rattle.rows.specs.declared.change.Transaction.{Transaction}
 use Rattle.rows.specs.Listing.{rows_listed}
 use Rattle.apply_channel.specs.Channels.{Received}
 use Rattle.txn_journal.specs.WrittenSets.{set_text}
-use Rattle.txn_journal.specs.Spelling.{spelling}
+use Rattle.txn_journal.specs.Spelling.{spelling_as}
+use Rattle.txn_journal.specs.Stamps.{right_stamps}
+use Rattle.txn_journal.specs.declared.lines.Version.{Version}
 use Rattle.gtid_report.specs.State.{rows_text}
 use Rattle.replica_lines.specs.Status.{status_text}
 use Rattle.replica_core.specs.State.{Replica, State, entry_at}
@@ -47,12 +49,16 @@ abbrev pub place_or_none : Option ℕ → List ℕ
 place_or_none None = codes "none"
 place_or_none (Some place) = decimal place
 
+-- a replica's own journal by a version of the format
+abbrev pub journal_text : Version → Replica → List ℕ
+journal_text version r = spelling_as version (right_stamps version r.site.schema r.state.journal.entries) r.state.journal
+
 -- the lines that answer a query
 abbrev pub query_text : Replica → Query → List ℕ
 query_text r query.Rows = rows_text r.site.schema (rows_listed r.state.rows)
 query_text r query.Executed = with_line_feed (set_text r.state.executed)
 query_text r query.Purged = with_line_feed (set_text r.state.journal.previous)
-query_text r query.Journal = spelling r.state.journal
+query_text r (query.Journal version) = journal_text version r
 query_text r query.Drained = with_line_feed (truth (drained r.state))
 query_text r query.Status = status_text r.state
 query_text r (query.Ask channel) = with_line_feed (set_or_none (asks r.state channel))

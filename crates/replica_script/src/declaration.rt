@@ -1,5 +1,5 @@
 //! Declarations: tables, rows, and the replica or the network that has them.
-ghost use Rattle.std.specs.Prelude.{◌≡◌, Some, IfOk, IfErr, option_map};
+ghost use Rattle.std.specs.Prelude.{◌≡◌, false, not, Some, IfOk, IfErr, option_map};
 ghost use Rattle.gtid_set.specs.Laws.{HaveNumbers};
 ghost use Rattle.row_images.specs.Images.{words_of};
 ghost use Rattle.network.specs.Nodes.{ids_distinct, new_nodes};
@@ -8,6 +8,7 @@ ghost use Rattle.replica_script.specs.declared.answer.Stop.{Stop};
 ghost use Rattle.replica_script.specs.declared.answer.Stop.TheVariants.{Memory};
 
 use crate::answer::Stop;
+use crate::preamble::bundle_preamble;
 use crate::transaction::stop_of;
 use gtid_set::{GtidSet, SetFault};
 use gtid_text::SourceId;
@@ -17,7 +18,7 @@ use replica_core::Core;
 use row_images::cut;
 use std::alloc::{AllocError, Global};
 use std::collections::BTreeSet;
-use txn_journal::{Bundle, BundleReader};
+use txn_journal::{Bundle, BundleReader, Version};
 
 fn feed_bundle(alloc: Global, bundle: &mut BundleReader, line: &[u8]) -> Result<(), Stop> {
     if let Err(fault) = bundle.feed(alloc, line) {
@@ -29,7 +30,7 @@ fn feed_bundle(alloc: Global, bundle: &mut BundleReader, line: &[u8]) -> Result<
     }
 }
 
-/// The tables and rows that are declared.
+/// The tables, references and rows that are declared.
 #[derive(Drop)]
 pub struct Declared {
     /// A bundle, as far as its lines have come.
@@ -40,19 +41,27 @@ pub struct Declared {
 
 impl Declared {
     /// Before the first line.
-    pub fn start(alloc: Global) -> Declared {
+    pub fn start(alloc: Global) -> Declared
+        ensures { result.is_begun ≡ false }
+    {
         Declared {
             bundle: BundleReader::start(alloc),
             is_begun: false,
         }
     }
 
+    /// Whether no line has come.
+    pub fn is_empty(&self) -> bool
+        ensures { result ≡ not self.now.is_begun }
+    {
+        !self.is_begun
+    }
+
     /// Takes the lines before the first table. They are of the language, so that an allocation alone can fail.
-    fn begin(&mut self, alloc: Global) -> Result<(), Stop>
+    fn begin(&mut self, alloc: Global, version: Version) -> Result<(), Stop>
         ensures { IfErr result (λ stop. stop ≡ Memory) }
     {
-        let head = b"bundle 1\nreplica 00000000-0000-0000-0000-000000000000";
-        match feed_bundle(alloc, &mut self.bundle, head) {
+        match feed_bundle(alloc, &mut self.bundle, bundle_preamble(version).as_bytes()) {
             Ok(()) => {
                 self.is_begun = true;
                 Ok(())
@@ -61,10 +70,10 @@ impl Declared {
         }
     }
 
-    /// Takes the next line.
-    pub fn take_line(&mut self, alloc: Global, line: &[u8]) -> Result<(), Stop> {
+    /// Takes the next line, of a bundle of this version.
+    pub fn take_line(&mut self, alloc: Global, version: Version, line: &[u8]) -> Result<(), Stop> {
         if !self.is_begun {
-            self.begin(alloc)?;
+            self.begin(alloc, version)?;
         }
         feed_bundle(alloc, &mut self.bundle, line)
     }

@@ -14,7 +14,10 @@
 //! answers it is proved that a line which is passed over is answered by nothing and changes nothing, that `---` begins anew, and that none
 //! comes after a stop (`IsTold`). What is written of a seat's event is read back as that event (`laws`).
 //!
-//! Tables, rows and changes are read by the readers of `txn_journal`.
+//! Tables, rows and changes are read by the readers of `txn_journal`, by version 1 of the formats, or by version 3 where `version 3` is the
+//! first declaration. The version is part of a script's state: each line leaves the one that `next_version` states, and version 3 begins
+//! only where nothing else is declared (`BeginsThree`). It decides which words are names of channels (`question_of`) and which text the own
+//! journal has (`journal_text`).
 //!
 //! With `--again` an event or query that is refused memory is asked once more, if the replica equals a copy that was made before it. It
 //! always does, by proof; the comparison is there for the compilers below the proof (`sweep/refused_memory`).
@@ -22,8 +25,8 @@
 //! Exit status: 0 the whole script was answered, 2 a bad line or another command line, 3 out of memory, 4 reading or writing failed, 5 a
 //! refused call has changed the replica.
 //!
-//! Not proved: that lines of tables, rows and changes are read as what they denote; `channel`, `receive` and `local`, and the node after
-//! `at`, are read without a contract of their own.
+//! Not proved: that lines of tables, rows and changes are read as what they denote; `receive` and `local`, and the node after `at`, are
+//! read without a contract of their own.
 #![tactic(auto)]
 
 ghost use Rattle.std.specs.Prelude.{◌≡◌};
@@ -35,6 +38,7 @@ mod edge;
 mod laws;
 mod message;
 mod network_answer;
+mod preamble;
 mod query;
 mod question;
 mod replicas;

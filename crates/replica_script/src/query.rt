@@ -1,21 +1,25 @@
 //! Answers to queries.
 ghost use Rattle.std.specs.Prelude.{◌≡◌, ◌++◌, IfOk, IfErr, OnOk, string_bytes};
 ghost use Rattle.std.specs.Option.{option_copied};
+ghost use Rattle.txn_journal.specs.Spelling.{spelling_as};
+ghost use Rattle.txn_journal.specs.Stamps.{right_stamps};
 ghost use Rattle.txn_journal.specs.WrittenSets.{set_text};
+ghost use Rattle.txn_journal.specs.declared.lines.Version.TheVariants.{Three};
 ghost use Rattle.replica_core.specs.Faults.{ask_set, IsFaultIn};
 ghost use Rattle.replica_script.specs.Replies.{with_line_feed};
 ghost use Rattle.replica_script.specs.Scripts.{made_for};
-ghost use Rattle.replica_script.specs.Texts.{changes_or_gone, place_or_none, query_text, shown_entry, truth};
+ghost use Rattle.replica_script.specs.Texts.{changes_or_gone, journal_text, place_or_none, query_text, shown_entry, truth};
 
 use crate::question::Query;
 use gtid_report::{push_number, push_set, render_rows};
 use gtid_set::{GtidSet, SetFault};
 use gtid_text::{Gtid, write_gtid};
+use journal::Journal;
 use replica_core::Core;
 use replica_lines::status;
-use rows::Transaction;
+use rows::{Schema, Transaction};
 use std::alloc::{AllocError, Global};
-use txn_journal::encode;
+use txn_journal::{Version, encode, encode_v2};
 
 fn set_line(alloc: Global, set: &GtidSet) -> Result<String, AllocError>
     ensures { IfOk result (λ text. string_bytes text ≡ with_line_feed (set_text set.now)) }
@@ -43,6 +47,28 @@ fn rows_text(alloc: Global, core: &Core) -> Result<String, AllocError>
     let mut text = String::new(alloc);
     render_rows(&mut text, core.rows().schema(), &rows)?;
     Ok(text)
+}
+
+/// The one text of a journal by version 3 of the format. Its first line alone tells it from that by version 2.
+#[tactic(auto, using(crate::proofs::Versions::third_from_second))]
+fn encode_v3(alloc: Global, schema: &Schema, journal: &Journal) -> Result<Vec<u8>, AllocError>
+    ensures { IfOk result (λ bytes. bytes.items ≡ spelling_as Three (right_stamps Three schema.now journal.now.entries) journal.now) }
+{
+    let mut text = encode_v2(alloc, schema, journal)?;
+    text[8] = b'3';
+    Ok(text)
+}
+
+/// The lines of the own journal, by a version of the format.
+fn journal_text(alloc: Global, core: &Core, version: Version) -> Result<Vec<u8>, AllocError>
+    ensures { IfOk result (λ text. text.items ≡ journal_text version core.now) }
+{
+    let (schema, journal) = (core.rows().schema(), core.journal().as_journal());
+    match version {
+        Version::One => encode(alloc, journal),
+        Version::Two => encode_v2(alloc, schema, journal),
+        Version::Three => encode_v3(alloc, schema, journal),
+    }
 }
 
 /// The line of the set with which a channel would ask now.
@@ -120,7 +146,7 @@ pub fn query_text(alloc: Global, core: &Core, query: Query) -> Result<Vec<u8>, S
         Query::Rows => Ok(rows_text(alloc, core)?.into_bytes()),
         Query::Executed => Ok(set_line(alloc, core.executed())?.into_bytes()),
         Query::Purged => Ok(set_line(alloc, core.purged())?.into_bytes()),
-        Query::Journal => Ok(encode(alloc, core.journal().as_journal())?),
+        Query::Journal(version) => Ok(journal_text(alloc, core, version)?),
         Query::Drained => Ok(truth_line(alloc, core.is_drained())?.into_bytes()),
         Query::Status => Ok(status(alloc, core)?.into_bytes()),
         Query::Ask(channel) => Ok(ask_line(alloc, core, channel)?.into_bytes()),

@@ -1,14 +1,18 @@
 //! What a line asks of a replica, or of a network.
-ghost use Rattle.std.specs.Prelude.{◌≡◌};
+ghost use Rattle.std.specs.Prelude.{◌≡◌, true, false, Err, IfOk, OnOk, option_map};
+ghost use Rattle.std.specs.String.{string_bytes};
 ghost use Rattle.row_images.specs.Words.{count_of};
-ghost use Rattle.replica_script.specs.Questions.{question_alone, seat, with_one, with_two, with_three, with_numbers};
+ghost use Rattle.txn_journal.specs.Versions.{is_named};
+ghost use Rattle.txn_journal.specs.Words.{name_of};
+ghost use Rattle.replica_script.specs.Questions.{channel_of, preserves, question_alone, question_of, seat, with_one, with_two, with_three, with_numbers};
 ghost use Rattle.replica_script.specs.NetworkQuestions.{asked_of, at_node, network_event_of, network_with_two, network_with_three};
 
 use network::NetworkEvent;
 use replica_core::Event;
 use row_images::{count, cut};
-use rows::{Name, NameFault};
+use rows::{Limits, Name, NameFault};
 use std::alloc::{AllocError, Global};
+use txn_journal::Version;
 
 /// What a replica shows without changing.
 #[derive(Clone, Copy, Drop)]
@@ -19,8 +23,8 @@ pub enum Query {
     Executed,
     /// The purged set.
     Purged,
-    /// The own journal.
-    Journal,
+    /// The own journal, by this version of the format.
+    Journal(Version),
     /// Whether every received GTID is executed.
     Drained,
     /// The status: the sets, what is owned, and the channels.
@@ -58,9 +62,9 @@ pub enum Asked {
     Network(NetworkQuestion),
 }
 
-/// The question that is one word.
-fn question_alone(word: &[u8]) -> Option<Question>
-    ensures { result ≡ question_alone word.now }
+/// The question that is one word. A journal is shown by this version.
+fn question_alone(version: Version, word: &[u8]) -> Option<Question>
+    ensures { result ≡ question_alone version word.now }
 {
     if word == b"look".as_slice() {
         Some(Question::Event(Event::Look))
@@ -71,7 +75,7 @@ fn question_alone(word: &[u8]) -> Option<Question>
     } else if word == b"purged".as_slice() {
         Some(Question::Query(Query::Purged))
     } else if word == b"journal".as_slice() {
-        Some(Question::Query(Query::Journal))
+        Some(Question::Query(Query::Journal(version)))
     } else if word == b"drained".as_slice() {
         Some(Question::Query(Query::Drained))
     } else if word == b"status".as_slice() {
@@ -161,11 +165,27 @@ fn with_numbers(word: &[u8], rest: &[u8]) -> Option<Question>
     with_three(word, first, second, third)
 }
 
-fn name_in(alloc: Global, word: &[u8]) -> Result<Option<Name>, AllocError> {
+/// The name that a text is, by these limits.
+fn named(limits: Limits, text: String) -> Result<Name, NameFault>
+    ensures ok { IfOk result (λ name. name ≡ string_bytes text) }
+    ensures named { OnOk result (is_named limits (string_bytes text) ≡ true) }
+    ensures refused { result ≡ Err NameFault.NotAName → is_named limits (string_bytes text) ≡ false }
+{
+    match limits {
+        Limits::Narrow => Name::short(text),
+        Limits::Wide => Name::new(text),
+    }
+}
+
+/// The name that a word is, by these limits.
+#[tactic(auto, using(txn_journal::proofs::NameLemmas::not_text))]
+fn name_in(alloc: Global, limits: Limits, word: &[u8]) -> Result<Option<Name>, AllocError>
+    ensures { IfOk result (λ found. found ≡ name_of limits word.now) }
+{
     let Ok(text) = std::str::from_utf8(word) else {
         return Ok(None);
     };
-    match Name::short(String::from_str(alloc, text)?) {
+    match named(limits, String::from_str(alloc, text)?) {
         Ok(name) => Ok(Some(name)),
         Err(NameFault::NotAName) => Ok(None),
         Err(NameFault::Memory) => Err(AllocError),
@@ -173,7 +193,9 @@ fn name_in(alloc: Global, word: &[u8]) -> Result<Option<Name>, AllocError> {
 }
 
 /// Whether a channel preserves order, by the words after its name; none if they are not in the language.
-fn preserves(more: Option<&[u8]>) -> Option<bool> {
+fn preserves(more: Option<&[u8]>) -> Option<bool>
+    ensures { result ≡ preserves (option_map (λ word. word.now) more.entry) }
+{
     match more {
         None => Some(false),
         Some(word) if word == b"preserve".as_slice() => Some(true),
@@ -181,26 +203,34 @@ fn preserves(more: Option<&[u8]>) -> Option<bool> {
     }
 }
 
-/// The opening of a channel.
-fn channel(alloc: Global, rest: &[u8]) -> Result<Option<Question>, AllocError> {
+/// The opening of a channel, whose name is one of this version.
+fn channel(alloc: Global, version: Version, rest: &[u8]) -> Result<Option<Question>, AllocError>
+    ensures { IfOk result (λ found. found ≡ channel_of version rest.now) }
+{
     let (word, more) = cut(rest);
     let Some(preserve) = preserves(more) else {
         return Ok(None);
     };
-    match name_in(alloc, word)? {
+    match name_in(alloc, version.limits(), word)? {
         Some(name) => Ok(Some(Question::Event(Event::OpenChannel(name, preserve)))),
         None => Ok(None),
     }
 }
 
-/// What a line asks, if it is a question.
-pub fn question_in(alloc: Global, line: &[u8]) -> Result<Option<Question>, AllocError> {
+/// What a line asks by this version, if it is a question.
+pub fn question_in(
+    alloc: Global,
+    version: Version,
+    line: &[u8],
+) -> Result<Option<Question>, AllocError>
+    ensures { IfOk result (λ found. found ≡ question_of version line.now) }
+{
     let (word, rest) = cut(line);
     let Some(rest) = rest else {
-        return Ok(question_alone(word));
+        return Ok(question_alone(version, word));
     };
     if word == b"channel".as_slice() {
-        return channel(alloc, rest);
+        return channel(alloc, version, rest);
     }
     Ok(with_numbers(word, rest))
 }

@@ -1,7 +1,8 @@
 //! A script, line by line.
-ghost use Rattle.std.specs.Prelude.{◌≡◌, None, Some, IfOk, IfErr, codes};
+ghost use Rattle.std.specs.Prelude.{◌≡◌, None, Some, IfOk, IfErr, OnOk, [], is_some, not, codes};
 ghost use Rattle.replica_script.specs.Declarations.{IsOpenedAs};
-ghost use Rattle.replica_script.specs.Told.{IsFresh, IsStart, IsStoppedBy, IsTaken, IsTold, is_passed_over};
+ghost use Rattle.replica_script.specs.Told.{BeginsThree, IsFresh, IsStart, IsStoppedBy, IsTaken, IsTold, is_passed_over, version_after, version_declared};
+ghost use Rattle.txn_journal.specs.declared.lines.Version.TheVariants.{Three};
 
 use crate::answer::{Asking, Stop};
 use crate::declaration::{Declared, core_on, executed_word, network_on, source_words};
@@ -15,7 +16,7 @@ use replica_core::Core;
 use row_images::cut;
 use std::alloc::Global;
 use std::mem;
-use txn_journal::Bundle;
+use txn_journal::{Bundle, Version};
 
 /// Whether a line is passed over: an empty one, or a comment.
 fn is_passed_over(line: &[u8]) -> bool
@@ -25,6 +26,12 @@ fn is_passed_over(line: &[u8]) -> bool
         [] => true,
         [first, ..] => *first == b'#',
     }
+}
+
+/// Whether a line is one of a table, a reference or a row, by its first word.
+fn is_of_bundle(line: &[u8]) -> bool {
+    let (word, _) = cut(line);
+    word == b"table".as_slice() || word == b"fk".as_slice() || word == b"row".as_slice()
 }
 
 /// The replica that a line declares after its first word, with the tables and rows of a bundle.
@@ -78,6 +85,8 @@ fn put<T: Drop>(place: &mut T, value: T)
 struct Stage {
     /// How often a call is made that is refused memory.
     asking: Asking,
+    /// The version of the formats by which tables, changes and names are read, and a journal is shown.
+    version: Version,
     /// What is declared, until the replicas are.
     declared: Declared,
     /// The replica or the network, once it is declared.
@@ -93,6 +102,7 @@ impl Stage {
     {
         Stage {
             asking,
+            version: Version::One,
             declared: Declared::start(alloc),
             replicas: None,
             pending: None,
@@ -100,14 +110,18 @@ impl Stage {
     }
 
     /// The bundle of the tables and rows that are declared.
-    fn end_declared(&mut self, alloc: Global) -> Result<Bundle, Stop> {
-        self.declared.take_line(alloc, b"done")?;
+    fn end_declared(&mut self, alloc: Global) -> Result<Bundle, Stop>
+        ensures { self.new.version ≡ self.old.version }
+    {
+        self.declared.take_line(alloc, self.version, b"done")?;
         let declared = mem::replace(&mut self.declared, Declared::start(alloc));
         declared.finish()
     }
 
     /// Opens what a line declares, with the tables and rows that are declared.
-    fn open(&mut self, alloc: Global, word: &[u8], rest: &[u8]) -> Result<Replicas, Stop> {
+    fn open(&mut self, alloc: Global, word: &[u8], rest: &[u8]) -> Result<Replicas, Stop>
+        ensures { self.new.version ≡ self.old.version }
+    {
         let is_network = word == b"network".as_slice();
         if !is_network && word != b"core".as_slice() {
             return Err(Stop::BadLine);
@@ -118,12 +132,24 @@ impl Stage {
         }
     }
 
-    /// Takes a line of a declaration.
-    fn declare(&mut self, alloc: Global, line: &[u8]) -> Result<(), Stop> {
-        let (word, rest) = cut(line);
-        if word == b"table".as_slice() || word == b"row".as_slice() {
-            return self.declared.take_line(alloc, line);
+    /// Begins version 3. It is a bad line behind a table, a reference or a row, and where it has begun.
+    fn begin_three(&mut self) -> Result<(), Stop>
+        ensures { OnOk result (BeginsThree self.old self.new) }
+    {
+        match self.version {
+            Version::One if self.declared.is_empty() => {
+                self.version = Version::Three;
+                Ok(())
+            }
+            _ => Err(Stop::BadLine),
         }
+    }
+
+    /// Declares one replica, or a network.
+    fn declare_replicas(&mut self, alloc: Global, line: &[u8]) -> Result<(), Stop>
+        ensures { self.new.version ≡ self.old.version }
+    {
+        let (word, rest) = cut(line);
         let Some(rest) = rest else {
             return Err(Stop::BadLine);
         };
@@ -136,8 +162,24 @@ impl Stage {
         }
     }
 
+    /// Takes a line of a declaration.
+    fn declare(&mut self, alloc: Global, line: &[u8]) -> Result<(), Stop>
+        ensures begun { line.now ≡ codes "version 3" → OnOk result (BeginsThree self.old self.new) }
+        ensures version { OnOk result (self.new.version ≡ version_declared self.old.version line.now) }
+    {
+        if line == b"version 3".as_slice() {
+            return self.begin_three();
+        }
+        if is_of_bundle(line) {
+            return self.declared.take_line(alloc, self.version, line);
+        }
+        self.declare_replicas(alloc, line)
+    }
+
     /// Asks the replica or the network.
-    fn ask(&mut self, alloc: Global, asked: Asked) -> Result<Vec<u8>, Stop> {
+    fn ask(&mut self, alloc: Global, asked: Asked) -> Result<Vec<u8>, Stop>
+        ensures { self.new.version ≡ self.old.version }
+    {
         match &mut self.replicas {
             Some(replicas) => answer_asked(alloc, replicas, asked, self.asking),
             None => Err(Stop::BadLine),
@@ -150,22 +192,26 @@ impl Stage {
         alloc: Global,
         node: Option<usize>,
         line: &[u8],
-    ) -> Result<Vec<u8>, Stop> {
+    ) -> Result<Vec<u8>, Stop>
+        ensures { self.new.version ≡ self.old.version }
+    {
         if let Some(heading) = heading_in(line)? {
             put(
                 &mut self.pending,
-                Some(Pending::start(alloc, node, heading)?),
+                Some(Pending::start(alloc, self.version, node, heading)?),
             );
             return Ok(Vec::new(alloc));
         }
-        match question_in(alloc, line)? {
+        match question_in(alloc, self.version, line)? {
             Some(question) => self.ask(alloc, asked_of(node, question)),
             None => Err(Stop::BadLine),
         }
     }
 
     /// Takes a line that asks the replica of a node, from what comes after its first word.
-    fn take_at_node(&mut self, alloc: Global, rest: &[u8]) -> Result<Vec<u8>, Stop> {
+    fn take_at_node(&mut self, alloc: Global, rest: &[u8]) -> Result<Vec<u8>, Stop>
+        ensures { self.new.version ≡ self.old.version }
+    {
         let (word, line) = cut(rest);
         let Some(line) = line else {
             return Err(Stop::BadLine);
@@ -177,7 +223,9 @@ impl Stage {
     }
 
     /// Takes a line that asks a network.
-    fn take_network_question(&mut self, alloc: Global, line: &[u8]) -> Result<Vec<u8>, Stop> {
+    fn take_network_question(&mut self, alloc: Global, line: &[u8]) -> Result<Vec<u8>, Stop>
+        ensures { self.new.version ≡ self.old.version }
+    {
         let (word, rest) = cut(line);
         let Some(rest) = rest else {
             return Err(Stop::BadLine);
@@ -201,7 +249,9 @@ impl Stage {
 
     /// Takes a line outside a transaction.
     fn take_whole(&mut self, alloc: Global, line: &[u8]) -> Result<Vec<u8>, Stop>
-        ensures { line.now ≡ codes "---" → IfOk result (λ text. (text.items ≡ codes "---\n") × IsFresh self.old.asking self.new) }
+        ensures afresh { line.now ≡ codes "---" → IfOk result (λ text. (text.items ≡ codes "---\n") × IsFresh self.old.asking self.new) }
+        ensures begun { self.old.replicas ≡ None → line.now ≡ codes "version 3" → IfOk result (λ text. (text.items ≡ []) × BeginsThree self.old self.new) }
+        ensures version { OnOk result (self.new.version ≡ version_after self.old.version (not (is_some self.old.replicas)) line.now) }
     {
         if line == b"---".as_slice() {
             self.restart(alloc);
@@ -218,7 +268,9 @@ impl Stage {
     }
 
     /// Asks for the event of a transaction whose last line has come.
-    fn end_transaction(&mut self, alloc: Global, asked: Asked) -> Result<Vec<u8>, Stop> {
+    fn end_transaction(&mut self, alloc: Global, asked: Asked) -> Result<Vec<u8>, Stop>
+        ensures { self.new.version ≡ self.old.version }
+    {
         put(&mut self.pending, None);
         self.ask(alloc, asked)
     }

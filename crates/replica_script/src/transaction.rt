@@ -1,13 +1,14 @@
 //! Transactions, whose change lines follow their first line.
 
 use crate::answer::Stop;
+use crate::preamble::{first_numbers, journal_preamble};
 use crate::question::{Asked, Question, asked_of, number};
 use gtid_set::SetFault;
 use journal::Entry;
 use replica_core::Event;
 use row_images::cut;
 use std::alloc::Global;
-use txn_journal::{JournalFault, Reader};
+use txn_journal::{JournalFault, Reader, Version};
 
 /// What a fault of a reader means: its text is made of the script's lines.
 pub fn stop_of(fault: JournalFault) -> Stop {
@@ -28,10 +29,16 @@ fn feed_reader(alloc: Global, reader: &mut Reader, line: &[u8]) -> Result<(), St
 }
 
 /// Takes the lines of a journal before the change lines of its one entry.
-fn begin_entry(alloc: Global, reader: &mut Reader, gtid: &[u8]) -> Result<(), Stop> {
-    feed_reader(alloc, reader, b"journal 1\nprevious -")?;
+fn begin_entry(
+    alloc: Global,
+    version: Version,
+    reader: &mut Reader,
+    gtid: &[u8],
+) -> Result<(), Stop> {
+    feed_reader(alloc, reader, journal_preamble(version).as_bytes())?;
     let mut line = Vec::from_slice(alloc, b"txn ")?;
     line.extend_from_slice(gtid)?;
+    line.extend_from_slice(first_numbers(version).as_bytes())?;
     feed_reader(alloc, reader, &line)
 }
 
@@ -105,14 +112,15 @@ pub struct Pending {
 }
 
 impl Pending {
-    /// Before the first change line.
+    /// Before the first change line, of a journal of this version.
     pub fn start(
         alloc: Global,
+        version: Version,
         node: Option<usize>,
         heading: Heading<'_>,
     ) -> Result<Pending, Stop> {
         let mut reader = Reader::start(alloc);
-        match begin_entry(alloc, &mut reader, heading.gtid) {
+        match begin_entry(alloc, version, &mut reader, heading.gtid) {
             Ok(()) => Ok(Pending {
                 node,
                 channel: heading.channel,

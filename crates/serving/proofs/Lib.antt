@@ -5,3 +5,4 @@ pub mod Conditions
 pub mod Knowing
 pub mod Settling
 pub mod Written
+pub mod Unknown

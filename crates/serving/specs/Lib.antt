@@ -4,3 +4,4 @@ pub mod Serving
 pub mod Servable
 pub mod Faults
 pub mod Working
+pub mod Unknown

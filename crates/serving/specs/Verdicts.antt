@@ -1,5 +1,5 @@
 -- What the audit of a bundle finds, and what its journals result in.
-use Rattle.std.specs.Prelude.{◌≡◌, ℕ, Bool, true, false, List, map, take, length, Option, None, Some}
+use Rattle.std.specs.Prelude.{◌≡◌, ℕ, Bool, true, false, List, map, take, length, Option, None, Some, if◌then◌else◌}
 use Rattle.journal.specs.Journals.{JournalValue}
 use Rattle.apply_channel.specs.Channels.{ChannelValue}
 use Rattle.replica_core.specs.State.{State, Replica}
@@ -13,6 +13,7 @@ use Rattle.world.specs.MeaningInOrder.{joined_world}
 use Rattle.convergence.specs.Deciding as runs
 use Rattle.convergence.specs.Auditing.{HoldsAllOver}
 use Rattle.txn_journal.specs.BundleStates.{BundleValue}
+use Rattle.txn_journal.specs.Assumptions.{lacks_rows}
 use Rattle.txn_journal.specs.declared.bundle.BundleChannel.{BundleChannel}
 use Rattle.serving.specs.declared.order.Order.{Order}
 use Rattle.serving.specs.declared.order.Order.TheVariants.{BySource, ByConflict}
@@ -46,6 +47,10 @@ verdict_over order b = verdict_by order (world_over b) b.journals
 
 abbrev pub keys_over : Order → BundleValue → Verdict
 keys_over order b = keys_by order (world_over b) b.journals
+
+-- what an audit finds: of the keys alone, where the opening rows aren't known
+abbrev pub audited_over : Order → BundleValue → Verdict
+audited_over order b = if lacks_rows b.assumptions then keys_over order b else verdict_over order b
 
 -- the verdict of the audit, which is not Sound
 abbrev pub IsUnsound : Order → BundleValue → Verdict → Type 0

@@ -7,6 +7,8 @@
 //! Sound. Their parts only read the bundle and need nothing of one another, so that they may run at the same time: the audit decides
 //! whether what was served counts. Serving asks only that no source has purged what the opening set lacks (`can_be_sent`).
 //!
+//! Where the opening rows of a bundle aren't known (`Bundle::lacks_rows`), `audited_over` and `faults_known` audit the keys alone (`keys_settle`).
+//!
 //! What a contract sees: the bundle as its value, and the replica. Each bundle can be served, for its type keeps the rules of its format
 //! (`keeps_servable`; `IsServable`: at most 256 journals, each with a channel of its own name and transactions that the tables take).
 //!
@@ -21,16 +23,18 @@
 #![tactic(auto)]
 
 mod event;
+mod laws;
 mod listing;
 mod order;
 mod outcome;
 mod receiving;
 mod working;
 
-pub use listing::faults_over;
+pub use laws::keys_settle;
+pub use listing::{faults_known, faults_over};
 pub use order::Order;
 pub use outcome::{
-    StateOrVerdict, apply_all, audit_of_keys, begin, can_be_sent, conclude, conclude_applied,
-    keeps_servable, receive_all, serve, verdict_over, world_of,
+    StateOrVerdict, apply_all, audit_of_keys, audited_over, begin, can_be_sent, conclude,
+    conclude_applied, keeps_servable, receive_all, serve, verdict_over, world_of,
 };
 pub use receiving::entries_sent;

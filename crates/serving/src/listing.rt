@@ -1,9 +1,10 @@
 //! What an audit of a bundle lists.
 ghost use Rattle.std.specs.Prelude.{IfOk, IfErr};
 ghost use Rattle.audit.specs.Others.{HoldsFaults};
-ghost use Rattle.serving.specs.Listing.{IsFaultsFault, faults_over};
+ghost use Rattle.serving.specs.Listing.{IsFaultsFault, faults_over, faults_known};
 
-use crate::outcome::world_of;
+use crate::order::Order;
+use crate::outcome::{keys_verdict, world_of};
 use audit::{AllFaults, audit_all};
 use gtid_set::SetFault;
 use std::alloc::Global;
@@ -21,4 +22,18 @@ pub fn faults_over(alloc: Global, bundle: &Bundle) -> Result<AllFaults, SetFault
     let found = audit_all(alloc, &world, bundle.journals());
     drop(world);
     found
+}
+
+/// What `faults_over` lists, without what the application of transactions finds where the opening rows aren't known. The faults are those of
+/// `faults_over`.
+pub fn faults_known(alloc: Global, bundle: &Bundle) -> Result<AllFaults, SetFault>
+    ensures found { IfOk result (λ all. HoldsFaults all (faults_known bundle.now)) }
+    ensures fault { IfErr result (IsFaultsFault bundle.now) }
+{
+    let mut all = faults_over(alloc, bundle)?;
+    if bundle.lacks_rows() {
+        all.verdict = keys_verdict(alloc, bundle, Order::BySource)?;
+        all.does_not_apply = Vec::new(alloc);
+    }
+    Ok(all)
 }

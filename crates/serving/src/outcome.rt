@@ -11,7 +11,7 @@ ghost use Rattle.serving.specs.Serving.{opening, ServesEach, IsServed, IsReady, 
 ghost use Rattle.serving.specs.declared.receiving.Apply.TheVariants.{Later};
 ghost use Rattle.world.specs.declared.verdict.Verdict.TheVariants.{Sound};
 ghost use Rattle.serving.specs.declared.order.Order.TheVariants.{BySource, ByConflict};
-ghost use Rattle.serving.specs.Verdicts.{is_sound, world_over, keys_over, verdict_over, IsFoundInKeys, IsOfKeys, IsStateOrVerdict, IsVerdictOfKeys, HasMerged, IsConcluded};
+ghost use Rattle.serving.specs.Verdicts.{is_sound, world_over, keys_over, verdict_over, audited_over, IsFoundInKeys, IsOfKeys, IsStateOrVerdict, IsVerdictOfKeys, HasMerged, IsConcluded};
 
 use crate::order::Order;
 use crate::receiving::{Apply, serve_journals};
@@ -81,7 +81,7 @@ pub fn world_of(alloc: Global, bundle: &Bundle) -> Result<World, AllocError>
 /// made.
 fn source_keys_verdict(alloc: Global, bundle: &Bundle) -> Result<Verdict, SetFault>
     ensures found { IfOk result (λ found. found ≡ keys_over BySource bundle.now) }
-    ensures fault { IfErr result (IsBundleFault bundle.now) }
+    ensures fault { IfErr result (IsVerdictFault bundle.now) }
 {
     keeps_servable(bundle);
     let opened = bundle.opening_set();
@@ -91,7 +91,7 @@ fn source_keys_verdict(alloc: Global, bundle: &Bundle) -> Result<Verdict, SetFau
 /// What the audit of the journals' keys finds first over the opening rows, if transactions that share a key must be in one order.
 fn conflict_keys_verdict(alloc: Global, bundle: &Bundle) -> Result<Verdict, SetFault>
     ensures found { IfOk result (λ found. found ≡ keys_over ByConflict bundle.now) }
-    ensures fault { IfErr result (IsBundleFault bundle.now) }
+    ensures fault { IfErr result (IsVerdictFault bundle.now) }
 {
     let world = world_of(alloc, bundle)?;
     let found = audit_keys_in_order(alloc, &world, bundle.journals());
@@ -100,9 +100,13 @@ fn conflict_keys_verdict(alloc: Global, bundle: &Bundle) -> Result<Verdict, SetF
 }
 
 /// What an audit of the journals' keys over the opening rows finds first.
-fn keys_verdict(alloc: Global, bundle: &Bundle, order: Order) -> Result<Verdict, SetFault>
+pub(crate) fn keys_verdict(
+    alloc: Global,
+    bundle: &Bundle,
+    order: Order,
+) -> Result<Verdict, SetFault>
     ensures found { IfOk result (λ found. found ≡ keys_over order bundle.now) }
-    ensures fault { IfErr result (IsBundleFault bundle.now) }
+    ensures fault { IfErr result (IsVerdictFault bundle.now) }
 {
     match order {
         Order::BySource => source_keys_verdict(alloc, bundle),
@@ -141,6 +145,19 @@ pub fn verdict_over(alloc: Global, bundle: &Bundle, order: Order) -> Result<Verd
     match order {
         Order::BySource => source_verdict(alloc, bundle),
         Order::ByConflict => conflict_verdict(alloc, bundle),
+    }
+}
+
+/// What the audit that asks for an order finds first in a bundle: of its journals' keys alone, where its opening rows aren't known. The
+/// error is that of `verdict_over`.
+pub fn audited_over(alloc: Global, bundle: &Bundle, order: Order) -> Result<Verdict, SetFault>
+    ensures found { IfOk result (λ found. found ≡ audited_over order bundle.now) }
+    ensures fault { IfErr result (IsVerdictFault bundle.now) }
+{
+    if bundle.lacks_rows() {
+        keys_verdict(alloc, bundle, order)
+    } else {
+        verdict_over(alloc, bundle, order)
     }
 }
 

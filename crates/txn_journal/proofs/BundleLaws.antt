@@ -27,8 +27,8 @@ use Rattle.txn_journal.specs.Machine.{Standing, empty, is_last, is_within, open_
 use Rattle.txn_journal.specs.Spelling.{Line, End, Close, line_text, journal_lines, IsWritten, IsStamp, AreStamps}
 use Rattle.txn_journal.specs.Shapes.{shape_for}
 use Rattle.txn_journal.specs.BundleStates.{BundleValue, BundleStanding, bare, no_bundle, after_replica, is_due_in, after_tables as tables_end, with_opening, put_reference, put_row, put_assumption, join_channel, close_channel, after_inner, is_misstamped, unless_misstamped, judge_own, judge_inner, judge_part, judge_by, judge_bundle, is_done}
-use Rattle.txn_journal.specs.BundleReading.{is_inside, is_entry_open, bundles, closing_bundle, IsReadAs}
-use Rattle.txn_journal.specs.BundleText.{OwnLine, BundleLine, Own, Inner, Heads, Names, Starts, Has, Refers, Puts, Opens, Assumes, Done, own_text, bundle_line_text, table_lines, reference_lines, row_lines, assumption_lines, channel_lines, channels_lines, opening_set_lines, tables_lines, start_lines, bundle_lines, FitsRow, AreAdded, put_all, AreNamed, IsWrittenIn, AreBrought, IsOpeningSet, bundle_text, spelling_by, IsWrittenBundle, IsBundle, WritesBundleBy, IsLastStamped, AreAlmostStamped, AlmostWritesBundle}
+use Rattle.txn_journal.specs.BundleReading.{is_inside, is_entry_open, plain_bundles}
+use Rattle.txn_journal.specs.BundleText.{OwnLine, BundleLine, Own, Inner, Heads, Names, Starts, Has, Refers, Puts, Opens, Assumes, Done, own_text, bundle_line_text, table_lines, reference_lines, row_lines, assumption_lines, channel_lines, channels_lines, opening_set_lines, tables_lines, start_lines, bundle_lines, FitsRow, AreAdded, put_all, AreNamed, IsWrittenIn, AreBrought, IsOpeningSet, bundle_text, spelling_by, IsWrittenBundle, IsBundle, WritesPlainBundle, IsLastStamped, AreAlmostStamped, AlmostWritesBundle}
 use Rattle.txn_journal.specs.BundleCauses.{own_word, FitsOwn, own_wording}
 use Rattle.txn_journal.specs.declared.bundle.BundleChannel.{BundleChannel}
 use Rattle.txn_journal.specs.declared.bundle_draft.Part.{Part}
@@ -40,7 +40,7 @@ use Rattle.txn_journal.specs.declared.lines.LinePlace.TheVariants as places
 use Rattle.txn_journal.specs.declared.lines.Version.TheVariants.{One, Two, Three}
 use Rattle.std.proofs.lemmas.Simd.{map-map}
 use Rattle.txn_journal.proofs.Judged.{bind_ok, done, ok_is}
-use Rattle.txn_journal.proofs.FormatLaws.{reads_back, runs, Leads, leads_none, leads_one, leads_both, Reads, CanGoOn, Laws}
+use Rattle.txn_journal.proofs.FormatLaws.{runs, Leads, leads_none, leads_one, leads_both, Reads, ReadsOn, CanGoOn, Laws}
 use Rattle.txn_journal.proofs.SoundLines.{placed, Sound_at, IsSound, Taken, judged_line, stamps_more}
 use Rattle.txn_journal.proofs.GtidLaws.{none_written}
 use Rattle.gtid_text.specs.Written.{IsSource}
@@ -224,7 +224,7 @@ module _ (whole : Bool) (due : Due) (version : Version) (is_due_version : takes 
     assume : has_references version ≡ true → is_due_in s.version s.part words.Assume ≡ true
     done : is_due_in s.version s.part words.Done ≡ true
     assumptions : (tables_end s).bundle.assumptions ≡ b.assumptions
-    assumes : (a : Assumption) → length b.assumptions < most_assumptions → may_assume b.start.schema b.channels a ≡ true → own_put s (Assumes a) ≡ Ok (state parts.Assumptions [] (with_assumption b a) None s.draft)
+    assumes : (a : Assumption) → length b.assumptions < most_assumptions → may_assume b.opened b.start b.channels a ≡ true → own_put s (Assumes a) ≡ Ok (state parts.Assumptions [] (with_assumption b a) None s.draft)
     ends : own_put s Done ≡ Ok (ending b s.draft)
 
   -- where a channel may come too, the tables end here at the latest
@@ -245,7 +245,7 @@ module _ (whole : Bool) (due : Due) (version : Version) (is_due_version : takes 
     reference : has_references version ≡ true → is_due_in s.version s.part words.Reference ≡ true
     refers : (r : Reference) → length b.references < most_references → reference_to b.start.schema (reference_shape r) ≡ Ok r → own_put s (Refers (reference_shape r)) ≡ Ok (state parts.References [] (with_reference b r) None s.draft)
 
-  assumes_after : (s : BundleStanding) (b : BundleValue) (a : Assumption) → tables_end s ≡ record (tables_end s) { bundle = b } → length b.assumptions < most_assumptions → may_assume b.start.schema b.channels a ≡ true
+  assumes_after : (s : BundleStanding) (b : BundleValue) (a : Assumption) → tables_end s ≡ record (tables_end s) { bundle = b } → length b.assumptions < most_assumptions → may_assume b.opened b.start b.channels a ≡ true
       → put_assumption (tables_end s) a ≡ Ok (record (tables_end s) { part = parts.Assumptions; bundle = with_assumption b a })
   unfolding put_assumption
   assumes_after s b a is room may = ap (λ (x : BundleStanding). put_assumption x a) is ∙ rw (lt-leb most_assumptions (length b.assumptions) room, may) refl
@@ -387,7 +387,7 @@ module _ (whole : Bool) (due : Due) (version : Version) (is_due_version : takes 
   abbrev with_assumptions : BundleValue → List Assumption → BundleValue
   with_assumptions b said = record b { assumptions = b.assumptions ++ said }
 
-  brings_assumptions : (s : BundleStanding) (b : BundleValue) (said : List Assumption) → Closing s b → length b.assumptions + length said ≤ most_assumptions → AreInOrder (limits_of version) b.start.schema b.channels b.assumptions said → Brings Closing s (assumption_lines said) (with_assumptions b said)
+  brings_assumptions : (s : BundleStanding) (b : BundleValue) (said : List Assumption) → Closing s b → length b.assumptions + length said ≤ most_assumptions → AreInOrder (limits_of version) b.opened b.start b.channels b.assumptions said → Brings Closing s (assumption_lines said) (with_assumptions b said)
   brings_assumptions s b [] closing few order = record { last = s; is = subst (Closing s) (λ i. record b { assumptions = sym (append-nil b.assumptions) i }) closing; goes = goes_none s }
   brings_assumptions s b (a ∷ said) closing few order =
       let u = state parts.Assumptions [] (with_assumption b a) None s.draft in
@@ -515,7 +515,7 @@ judge_is : judge_bundle ≡ judge_by true
 unfolding judge_bundle
 judge_is = refl
 
-reads_strictly : (due : Due) (bytes : List ℕ) (b : BundleValue) → WritesBundleBy due bytes b → Reads (bundles due) (judge_by true) bytes b
+reads_strictly : (due : Due) (bytes : List ℕ) (b : BundleValue) → WritesPlainBundle due bytes b → Reads (plain_bundles due) (judge_by true) bytes b
 reads_strictly due bytes b w =
     let version = w.0 in
     let k = w.2 in
@@ -523,15 +523,15 @@ reads_strictly due bytes b w =
     let r = reads_lines true due version w.1 k.rows all b k.written (all_right true due version w.1 b.start.schema b.journals) in
     record { lines = bundle_lines version k.rows all b; last = r.last; parts = k.text; leads = r.goes; done = r.done; value = r.value }
 
-pub reads_bundle : (due : Due) (bytes : List ℕ) (b : BundleValue) → WritesBundleBy due bytes b → Reads (bundles due) judge_bundle bytes b
-reads_bundle due bytes b w = subst (λ (j : Judge BundleStanding). Reads (bundles due) j bytes b) (sym judge_is) (reads_strictly due bytes b w)
+reads_bundle : (due : Due) (bytes : List ℕ) (b : BundleValue) → WritesPlainBundle due bytes b → Reads (plain_bundles due) judge_bundle bytes b
+reads_bundle due bytes b w = subst (λ (j : Judge BundleStanding). Reads (plain_bundles due) j bytes b) (sym judge_is) (reads_strictly due bytes b w)
 
-reads_almost : (due : Due) (bytes : List ℕ) (b : BundleValue) → AlmostWritesBundle due bytes b → Reads (bundles due) (judge_by false) bytes b
+reads_almost : (due : Due) (bytes : List ℕ) (b : BundleValue) → AlmostWritesBundle due bytes b → ReadsOn (plain_bundles due) (judge_by false) bytes
 reads_almost due bytes b w =
     let version = w.0 in
     let k = w.2 in
     let r = reads_lines false due version w.1 k.rows k.stamps b k.written (almost_fit due version w.1 b.start.schema k.stamps b.journals k.stamped) in
-    record { lines = bundle_lines version k.rows k.stamps b; last = r.last; parts = k.text; leads = r.goes; done = r.done; value = r.value }
+    record { lines = bundle_lines version k.rows k.stamps b; last = r.last; parts = k.text; leads = r.goes }
 
 -- ---- what is taken is taken loosely
 
@@ -583,10 +583,10 @@ refuses rows s line c h e inside = part_refuses s.part rows s line c h e inside
 
 -- ---- what has been read can be gone on with
 
-goes_on : (due : Due) (version : Version) (ls more : List BundleLine) (rows : List TableRow) (b : BundleValue) → takes due version ≡ true → IsWrittenBundle version rows b → bundle_lines version rows (all_stamps version b.start.schema b.journals) b ≡ ls ++ more → CanGoOn (bundles due) false ls
+goes_on : (due : Due) (version : Version) (ls more : List BundleLine) (rows : List TableRow) (b : BundleValue) → takes due version ≡ true → IsWrittenBundle version rows b → bundle_lines version rows (all_stamps version b.start.schema b.journals) b ≡ ls ++ more → CanGoOn (plain_bundles due) false ls
 goes_on due version ls more rows b is w e = record { value = b; more = more; writes = (version, is, record { rows = rows; written = w; text = ap bundle_text (sym e) }) }
 
-goes_on_almost : (due : Due) (version : Version) (ls more : List BundleLine) (rows : List TableRow) (all : List (List ℕ)) (b : BundleValue) → takes due version ≡ true → IsWrittenBundle version rows b → AreAlmostStamped version b.start.schema all b.journals → bundle_lines version rows all b ≡ ls ++ more → CanGoOn (bundles due) true ls
+goes_on_almost : (due : Due) (version : Version) (ls more : List BundleLine) (rows : List TableRow) (all : List (List ℕ)) (b : BundleValue) → takes due version ≡ true → IsWrittenBundle version rows b → AreAlmostStamped version b.start.schema all b.journals → bundle_lines version rows all b ≡ ls ++ more → CanGoOn (plain_bundles due) true ls
 goes_on_almost due version ls more rows all b is w almost e = record { value = b; more = more; writes = (version, is, record { rows = rows; stamps = all; written = w; stamped = almost; text = ap bundle_text (sym e) }) }
 
 empty_opening : (version : Version) → IsOpeningSet version set.empty
@@ -618,7 +618,7 @@ last_at version tables places.Within d within h due e =
     }
 last_at version tables place d within h due e = absurd cc
 
-begins_inside : (due : Due) (version : Version) (rows : List TableRow) (b : BundleValue) (c : BundleChannel) (draft : Standing) → IsDueBundle due version rows b → IsOpen version b c draft → CanGoOn (bundles due) (is_within draft.place) (front version rows b ++ (Own (Opens c) ∷ map Inner (lines_so_far draft)))
+begins_inside : (due : Due) (version : Version) (rows : List TableRow) (b : BundleValue) (c : BundleChannel) (draft : Standing) → IsDueBundle due version rows b → IsOpen version b c draft → CanGoOn (plain_bundles due) (is_within draft.place) (front version rows b ++ (Own (Opens c) ∷ map Inner (lines_so_far draft)))
 begins_inside due version rows b c draft w o =
     let tables = b.start.schema in
     let k = completes_at (Some tables) draft.place draft o.sound in
@@ -634,7 +634,7 @@ begins_inside due version rows b c draft w o =
     let written = channel_written version rows b c draft k.journal w.written o (subst (λ (v : Version). IsWritten (limits_of v) k.journal) is k.fits) k.fitting in
     let lines : (fs : List BundleLine) → fs ≡ before ++ channel_lines version c stamps k.journal → fs ++ end ≡ (before ++ inside) ++ more = λ fs e.
     ap (λ (ls : List BundleLine). ls ++ end) (e ∙ ap (λ (ls : List BundleLine). before ++ ls) channel ∙ sym (append_assoc before inside (map Inner k.more))) ∙ append_assoc (before ++ inside) (map Inner k.more) end in
-    elim (is_within draft.place) as (λ v. is_within draft.place ≡ v → CanGoOn (bundles due) v (before ++ inside)) [
+    elim (is_within draft.place) as (λ v. is_within draft.place ≡ v → CanGoOn (plain_bundles due) v (before ++ inside)) [
       | true ↦ λ within.
           let all = all_stamps version tables b.journals ++ stamps ∷ [] in
           let last : IsLastStamped version tables stamps k.journal.entries = subst (IsLastStamped version tables stamps) (sym k.entries) (last_at version tables draft.place draft within o.sound o.same_version o.stamped) in
@@ -645,7 +645,7 @@ begins_inside due version rows b c draft w o =
           goes_on due version (before ++ inside) more rows d w.due_version written (lines _ (right_front version rows b c stamps k.journal w.written.brought right))
     ] refl
 
-bundle_begins_at : (part : Part) (rows : List TableRow) (s : BundleStanding) → SoundAt part s.due s.version s.tables rows s.bundle s.channel s.draft → CanGoOn (bundles s.due) (is_entry_open part s.draft.place) (bundle_lines_so_far_at part rows s)
+bundle_begins_at : (part : Part) (rows : List TableRow) (s : BundleStanding) → SoundAt part s.due s.version s.tables rows s.bundle s.channel s.draft → CanGoOn (plain_bundles s.due) (is_entry_open part s.draft.place) (bundle_lines_so_far_at part rows s)
 bundle_begins_at parts.Header rows s h =
     let v = some_version s.due in
     goes_on s.due v.0 [] (bundle_lines v.0 [] [] (bare 0 set.empty [])) [] (bare 0 set.empty []) v.1 (no_rows_written v.0) refl
@@ -663,7 +663,7 @@ bundle_begins_at parts.Rows rows s h = goes_on s.due s.version (front s.version 
 bundle_begins_at parts.Channels rows s h = goes_on s.due s.version (front s.version rows s.bundle) (assumption_lines s.bundle.assumptions ++ Own Done ∷ []) rows s.bundle h.0.due_version h.0.written refl
 bundle_begins_at parts.Journal rows s h = open_begins s.channel h.1
   where
-    open_begins : (o : Option BundleChannel) → OpenChannel s.version s.bundle o s.draft → CanGoOn (bundles s.due) (is_within s.draft.place) (front s.version rows s.bundle ++ inner_lines_so_far o s.draft)
+    open_begins : (o : Option BundleChannel) → OpenChannel s.version s.bundle o s.draft → CanGoOn (plain_bundles s.due) (is_within s.draft.place) (front s.version rows s.bundle ++ inner_lines_so_far o s.draft)
     open_begins None k = absurd k
     open_begins (Some c) k = begins_inside s.due s.version rows s.bundle c s.draft h.0 k
 bundle_begins_at parts.Assumptions rows s h =
@@ -676,20 +676,20 @@ bundle_begins_at parts.Ended rows s h =
 
 -- ---- bundles
 
-abbrev pub IsSoundBundle : Due → BundleStanding → List BundleLine → Type 0
-IsSoundBundle due s ls = (s.due ≡ due) × ((rows : List TableRow) × (bundle_lines_so_far rows s ≡ ls) × IsBundleSound rows s)
+abbrev pub IsSoundPlain : Due → BundleStanding → List BundleLine → Type 0
+IsSoundPlain due s ls = (s.due ≡ due) × ((rows : List TableRow) × (bundle_lines_so_far rows s ≡ ls) × IsBundleSound rows s)
 
 -- a bundle that has come to its end
 pub ends_at : (part : Part) (rows : List TableRow) (s : BundleStanding) → SoundAt part s.due s.version s.tables rows s.bundle s.channel s.draft → is_done part ≡ true → IsDueBundle s.due s.version rows s.bundle × (bundle_lines_so_far_at part rows s ≡ front s.version rows s.bundle ++ (assumption_lines s.bundle.assumptions ++ Own Done ∷ []))
 ends_at parts.Ended rows s h last = (h, refl)
 ends_at part rows s h last = absurd cc
 
-pub bundle_laws : (due : Due) → Laws (bundles due) (IsSoundBundle due)
-bundle_laws due = record {
+pub plain_bundle_laws : (due : Due) → Laws (plain_bundles due) (IsSoundPlain due)
+plain_bundle_laws due = record {
   starts = (refl, ([], refl, refl));
   has_lines = λ s ls h. (h.1.0, h.1.1);
-  begins = λ s ls h. subst (λ (x : Due). CanGoOn (bundles x) (is_entry_open s.part s.draft.place) ls) h.0 (subst (λ (x : List BundleLine). CanGoOn (bundles s.due) (is_entry_open s.part s.draft.place) x) h.1.1 (bundle_begins_at s.part h.1.0 s h.1.2));
-  judges = λ s ls line h. MatchResult-weaker (judge_bundle s line) (bundle_taken h.1.0 s line h.1.2)
+  begins = λ s ls h. subst (λ (x : Due). CanGoOn (plain_bundles x) (is_entry_open s.part s.draft.place) ls) h.0 (subst (λ (x : List BundleLine). CanGoOn (plain_bundles s.due) (is_entry_open s.part s.draft.place) x) h.1.1 (bundle_begins_at s.part h.1.0 s h.1.2));
+  judges = λ s ls line h one. MatchResult-weaker (judge_bundle s line) (bundle_taken h.1.0 s line h.1.2)
       (λ t k. record { l = k.l; text = k.text; sound = (k.keeps.same_due ∙ h.0, (k.keeps.rows, k.keeps.says ∙ ap (λ (x : List BundleLine). x ++ k.l ∷ []) h.1.1, k.keeps.sound)) })
       (λ c k. k);
   ends = λ s ls h last.
@@ -702,12 +702,9 @@ bundle_laws due = record {
   reads_open = reads_almost due;
 }
 
--- ---- whichever version is due, the end is the same
-
-pub closing_same : (due : Due) (p : Progress BundleStanding) → closing_bundle p ≡ closing_by (bundles due) p
-unfolding closing_by
-closing_same due (Reading s n rest) = refl
-closing_same due (Stopped f) = refl
+pub loosely_is : (due : Due) (s : BundleStanding) (line : List ℕ) → (plain_bundle_laws due).loose s line ≡ judge_by false s line
+unfolding plain_bundle_laws
+loosely_is due s line = refl
 
 -- ---- a bundle of version 1 as one of version 2
 
@@ -747,16 +744,3 @@ relisted_by Three rows b k = in_listed_order Three rows b k
 
 pub relisted : (version : Version) (rows : List TableRow) (b : BundleValue) → IsWrittenBundle version rows b → IsBundle b
 relisted version rows b k = (limits_of version, relisted_by version rows b k)
-
-pub upgraded : (bytes : List ℕ) (b : BundleValue) → WritesBundleBy (Only One) bytes b → WritesBundleBy (Only Two) (spelling_by Two b) b
-upgraded bytes b (One, is, w) = (Two, refl, record { rows = rows_listed b.start.rows; written = relisted_by One w.rows b w.written; text = refl })
-upgraded bytes b (Two, is, w) = absurd cc
-upgraded bytes b (Three, is, w) = absurd cc
-
-pub upgraded_read : (bytes : List ℕ) (b : BundleValue) → WritesBundleBy (Only One) bytes b → IsReadAs (spelling_by Two b) b
-upgraded_read bytes b w =
-    let u = upgraded bytes b w in
-    reads_back (bundles Any) (IsSoundBundle Any) (bundle_laws Any) (spelling_by Two b) b (u.0, any_version u.0, u.2)
-  where
-    any_version : (v : Version) → takes Any v ≡ true
-    any_version v = refl

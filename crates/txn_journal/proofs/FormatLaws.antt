@@ -28,6 +28,20 @@ runs_then {S} judge s t (k ∷ ks) ls e =
     let a = bind_ok (judge s k) (λ u. runs judge u ks) t e in
     ap (λ (r : Result S Cause). r >>= λ u. runs judge u (ks ++ ls)) a.1 ∙ runs_then judge a.0 t ks ls a.2
 
+pub runs_split : {S : Type 0} (judge : Judge S) (s t : S) (xs ys : List (List ℕ)) → runs judge s (xs ++ ys) ≡ Ok t → (u : S) × (runs judge s xs ≡ Ok u) × (runs judge u ys ≡ Ok t)
+runs_split judge s t [] ys e = (s, refl, e)
+runs_split {S} judge s t (x ∷ xs) ys e =
+    let a = bind_ok (judge s x) (λ u. runs judge u (xs ++ ys)) t e in
+    let more = runs_split judge a.0 t xs ys a.2 in
+    (more.0, ap (λ (r : Result S Cause). r >>= λ u. runs judge u xs) a.1 ∙ more.1, more.2)
+
+-- another judge that takes what this one takes
+pub runs_follow : {S : Type 0} (judge other : Judge S) → ((s t : S) (line : List ℕ) → judge s line ≡ Ok t → other s line ≡ Ok t) → (s t : S) (xs : List (List ℕ)) → runs judge s xs ≡ Ok t → runs other s xs ≡ Ok t
+runs_follow judge other follows s t [] e = e
+runs_follow {S} judge other follows s t (x ∷ xs) e =
+    let a = bind_ok (judge s x) (λ u. runs judge u xs) t e in
+    ap (λ (r : Result S Cause). r >>= λ u. runs other u xs) (follows s a.0 x a.1) ∙ runs_follow judge other follows a.0 t xs a.2
+
 -- lines, each with its line feed
 eats_runs : {S L : Type 0} (judge : Judge S) (text : L → List ℕ) (s t : S) (ls : List L) (n : ℕ) → AllByRecursion (λ l. IsOneLine (text l)) ls → runs judge s (map text ls) ≡ Ok t → (m : ℕ) × (feed_bytes judge (Reading s n []) (flat_map (λ l. text l ++ 10 ∷ []) ls) ≡ Reading t m [])
 eats_runs {S} judge text s t [] n whole e = (n, ap (λ (u : S). Reading u n []) (ok_is s t e))
@@ -59,6 +73,72 @@ leads_both {judge} {text} {s} {t} {u} {ks} {ls} a b = record {
   run = ap (runs judge s) (map-append text ks ls) ∙ runs_then judge s t (map text ks) (map text ls) a.run ∙ b.run;
 }
 
+-- ---- the lines of a text are known by their texts
+
+-- where two texts begin with a line each
+cut_same : (xs ys cs bs : List ℕ) → IsOneLine xs → IsOneLine ys → xs ++ 10 ∷ cs ≡ ys ++ 10 ∷ bs → (xs ≡ ys) × (cs ≡ bs)
+cut_same [] [] cs bs one other e = (refl, cc)
+cut_same [] (y ∷ ys) cs bs one other e =
+    let p = and_parts (not (eqb y 10)) (list_all (λ x. not (eqb x 10)) ys) other in
+    let same : 10 ≡ y = cc in
+    absurd (let k = sym p.0 ∙ ap (λ (c : ℕ). not (eqb c 10)) (sym same) in cc)
+cut_same (x ∷ xs) [] cs bs one other e =
+    let p = and_parts (not (eqb x 10)) (list_all (λ d. not (eqb d 10)) xs) one in
+    let same : x ≡ 10 = cc in
+    absurd (let k = sym p.0 ∙ ap (λ (c : ℕ). not (eqb c 10)) same in cc)
+cut_same (x ∷ xs) (y ∷ ys) cs bs one other e =
+    let p = and_parts (not (eqb x 10)) (list_all (λ d. not (eqb d 10)) xs) one in
+    let q = and_parts (not (eqb y 10)) (list_all (λ c. not (eqb c 10)) ys) other in
+    let same : x ≡ y = cc in
+    let rest : xs ++ 10 ∷ cs ≡ ys ++ 10 ∷ bs = cc in
+    let more = cut_same xs ys cs bs p.1 q.1 rest in
+    (λ i. same i ∷ more.0 i, more.1)
+
+not_none : (xs cs : List ℕ) → xs ++ 10 ∷ cs ≡ [] → ⊥
+not_none [] cs e = cc
+not_none (x ∷ xs) cs e = cc
+
+module _ {L : Type 0} (text : L → List ℕ) where
+  abbrev ended : L → List ℕ
+  ended l = text l ++ 10 ∷ []
+
+  -- lines of which the first have the texts of others
+  pub record Split (ls ks : List L) (behind : List ℕ) : Type 0 where
+    pub front : List L
+    pub rest : List L
+    pub parts : ks ≡ front ++ rest
+    pub same : map text front ≡ map text ls
+    pub whole : AllByRecursion (λ l. IsOneLine (text l)) rest
+    pub left : flat_map (λ l. text l ++ 10 ∷ []) rest ≡ behind
+
+  line_first : (l : L) (ls : List L) (behind : List ℕ) → flat_map ended (l ∷ ls) ++ behind ≡ text l ++ 10 ∷ (flat_map ended ls ++ behind)
+  line_first l ls behind = append_assoc (ended l) (flat_map ended ls) behind ∙ append_assoc (text l) (10 ∷ []) (flat_map ended ls ++ behind)
+
+  pub splits : (ls ks : List L) (behind : List ℕ) → AllByRecursion (λ l. IsOneLine (text l)) ls → AllByRecursion (λ l. IsOneLine (text l)) ks → flat_map (λ l. text l ++ 10 ∷ []) ls ++ behind ≡ flat_map (λ l. text l ++ 10 ∷ []) ks → Split ls ks behind
+  splits [] ks behind one other e = record { front = []; rest = ks; parts = refl; same = refl; whole = other; left = sym e }
+  splits (l ∷ ls) [] behind one other e = absurd (not_none (text l) (flat_map ended ls ++ behind) (sym (line_first l ls behind) ∙ e))
+  splits (l ∷ ls) (k ∷ ks) behind one other e =
+      let c = cut_same (text l) (text k) (flat_map ended ls ++ behind) (flat_map ended ks) one.0 other.0 (sym (line_first l ls behind) ∙ e ∙ append_assoc (text k) (10 ∷ []) (flat_map ended ks)) in
+      let more = splits ls ks behind one.1 other.1 c.1 in
+      record {
+        front = k ∷ more.front;
+        rest = more.rest;
+        parts = ap (λ (x : List L). k ∷ x) more.parts;
+        same = (λ i. sym c.0 i ∷ more.same i);
+        whole = more.whole;
+        left = more.left;
+      }
+
+  none_left : (ks : List L) → flat_map ended ks ≡ [] → ks ≡ []
+  none_left [] e = refl
+  none_left (k ∷ ks) e = absurd (not_none (text k) (flat_map ended ks) (sym (append_assoc (text k) (10 ∷ []) (flat_map ended ks)) ∙ e))
+
+  -- two ways to cut one text into lines
+  pub same_texts : (ls ks : List L) → AllByRecursion (λ l. IsOneLine (text l)) ls → AllByRecursion (λ l. IsOneLine (text l)) ks → flat_map (λ l. text l ++ 10 ∷ []) ls ≡ flat_map (λ l. text l ++ 10 ∷ []) ks → map text ks ≡ map text ls
+  same_texts ls ks one other e =
+      let cut = splits ls ks [] one other (append-nil (flat_map ended ls) ∙ e) in
+      ap (map text) (cut.parts ∙ ap (λ (x : List L). cut.front ++ x) (none_left cut.rest cut.left) ∙ append-nil cut.front) ∙ cut.same
+
 -- ---- laws of single lines
 
 -- a text of the value is read to its end
@@ -69,6 +149,13 @@ pub record Reads (f : Format) (judge : Judge f.State) (bytes : List ℕ) (v : f.
   pub leads : Leads judge f.line_text f.start lines last
   pub done : f.is_last last ≡ true
   pub value : f.value last ≡ v
+
+-- lines of a text are read
+pub record ReadsOn (f : Format) (judge : Judge f.State) (bytes : List ℕ) : Type 0 where
+  pub lines : List f.Line
+  pub last : f.State
+  pub parts : bytes ≡ text_of f lines
+  pub leads : Leads judge f.line_text f.start lines last
 
 -- one line more
 pub record OneMore (f : Format) (Sound : f.State → List f.Line → Type 0) (old : List f.Line) (line : List ℕ) (t : f.State) : Type 0 where
@@ -87,13 +174,13 @@ pub record Laws (f : Format) (Sound : f.State → List f.Line → Type 0) : Type
   pub starts : Sound f.start []
   pub has_lines : (s : f.State) (ls : List f.Line) → Sound s ls → f.HasLines s ls
   pub begins : (s : f.State) (ls : List f.Line) → Sound s ls → CanGoOn f (f.is_open s) ls
-  pub judges : (s : f.State) (ls : List f.Line) (line : List ℕ) → Sound s ls → MatchResult (f.judge s line) (OneMore f Sound ls line) (f.HasCause s line)
+  pub judges : (s : f.State) (ls : List f.Line) (line : List ℕ) → Sound s ls → IsOneLine line → MatchResult (f.judge s line) (OneMore f Sound ls line) (f.HasCause s line)
   pub ends : (s : f.State) (ls : List f.Line) → Sound s ls → f.is_last s ≡ true → f.Writes (text_of f ls) (f.value s)
   pub reads : (bytes : List ℕ) (v : f.Value) → f.Writes bytes v → Reads f f.judge bytes v
   pub loose : Judge f.State
   pub follows : (s t : f.State) (line : List ℕ) → f.judge s line ≡ Ok t → loose s line ≡ Ok t
   pub refuses : (s : f.State) (ls : List f.Line) (line : List ℕ) (c : Cause) → Sound s ls → f.judge s line ≡ Err c → f.is_inside line ≡ true → loose s line ≡ Err c
-  pub reads_open : (bytes : List ℕ) (v : f.Value) → f.AlmostWrites bytes v → Reads f loose bytes v
+  pub reads_open : (bytes : List ℕ) (v : f.Value) → f.AlmostWrites bytes v → ReadsOn f loose bytes
 
 -- ---- lines
 
@@ -236,7 +323,7 @@ module _ (f : Format) (Sound : f.State → List f.Line → Type 0) (laws : Laws 
   unfolding feed_byte
   next_byte bytes bs s n rest b true e h more =
       let k : Stands bytes s n rest (10 ∷ bs) = subst (λ (x : ℕ). Stands bytes s n rest (x ∷ bs)) (eqb-true b 10 e) h in
-      next_line bytes bs s n rest k (f.judge s rest) refl (laws.judges s k.lines rest k.sound) more
+      next_line bytes bs s n rest k (f.judge s rest) refl (laws.judges s k.lines rest k.sound k.part) more
   next_byte bytes bs s n rest b false e h more = more s n (rest ++ b ∷ []) (record {
     lines = h.lines;
     parts = h.parts ∙ ap (λ (x : List ℕ). text_of f h.lines ++ x) (sym (append_assoc rest (b ∷ []) bs));
@@ -258,6 +345,31 @@ module _ (f : Format) (Sound : f.State → List f.Line → Type 0) (laws : Laws 
   unfolding closing_by feed_byte
   goes_on bytes [] s n rest h = ends_here bytes s n rest (f.is_last s) refl h (ap (whole_by f) h.parts ∙ ap (closing_by f) (h.eaten []))
   goes_on bytes (b ∷ bs) s n rest h = next_byte bytes bs s n rest b (eqb b 10) refl h (λ t m new k. goes_on bytes bs t m new k)
+
+  -- ---- lines that have made a state
+
+  -- lines with these texts, which are known of what has been made
+  pub record AreRead (texts : List (List ℕ)) (old : List f.Line) (t : f.State) : Type 0 where
+    pub lines : List f.Line
+    pub texts_are : map f.line_text lines ≡ texts
+    pub sound : Sound t (old ++ lines)
+
+  pub lines_read : (texts : List (List ℕ)) (s t : f.State) (old : List f.Line) → Sound s old → AllByRecursion IsOneLine texts → runs f.judge s texts ≡ Ok t → AreRead texts old t
+  lines_read [] s t old sound whole e = record {
+    lines = [];
+    texts_are = refl;
+    sound = subst (Sound t) (sym (append-nil old)) (subst (λ (u : f.State). Sound u old) (ok_is s t e) sound);
+  }
+  lines_read (x ∷ xs) s t old sound whole e =
+      let a = bind_ok (f.judge s x) (λ u. runs f.judge u xs) t e in
+      let P : Result f.State Cause → Type 0 = λ r. MatchResult r (OneMore f Sound old x) (f.HasCause s x) in
+      let one = subst P a.1 (laws.judges s old x sound whole.0) in
+      let more = lines_read xs a.0 t (old ++ one.l ∷ []) one.sound whole.1 a.2 in
+      record {
+        lines = one.l ∷ more.lines;
+        texts_are = (λ i. sym one.text i ∷ more.texts_are i);
+        sound = subst (Sound t) (append_assoc old (one.l ∷ []) more.lines) more.sound;
+      }
 
   -- ---- what the calls answer
 

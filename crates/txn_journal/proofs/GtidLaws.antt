@@ -223,10 +223,10 @@ behind_set before (s ∷ ss) u = joins is_set_byte (next_text before s) (text_be
 
 -- ---- the intervals of a word
 
-record SpansFound (w : List ℕ) (ss : List Span) : Type 0 where
-  text : w ≡ spans_word ss
-  merged : is_merged ss ≡ true
-  usable : AreUsable ss
+pub record SpansFound (w : List ℕ) (ss : List Span) : Type 0 where
+  pub text : w ≡ spans_word ss
+  pub merged : is_merged ss ≡ true
+  pub usable : AreUsable ss
 
 tidy_found : (w : List ℕ) (us ss : List Span) → spans_in w ≡ Ok us → some_tidy w us ≡ Some ss → SpansFound w ss
 tidy_found w [] ss read e = absurd cc
@@ -244,18 +244,21 @@ read_tidy : (w : List ℕ) (r : Result (List Span) ScanFault) (ss : List Span) �
 read_tidy w (Ok us) ss read e = tidy_found w us ss read e
 read_tidy w (Err x) ss read e = absurd cc
 
-spans_found : (w : List ℕ) (ss : List Span) → spans_of_word w ≡ Some ss → SpansFound w ss
+pub spans_found : (w : List ℕ) (ss : List Span) → spans_of_word w ≡ Some ss → SpansFound w ss
 spans_found w ss e =
     elim (chosen (bytes_eq w (codes "-")) (Some []) (if_ascii w (tidy_or_none w (spans_in w))) (Some ss) e) [
       | inl p ↦ subst (SpansFound w) (same_Some [] ss p.1) (record { text = (bytes_eq-Decides w (codes "-")).0 p.0; merged = refl; usable = tt })
       | inr p ↦ read_tidy w (spans_in w) ss refl (ascii_found w (tidy_or_none w (spans_in w)) ss p.1)
     ]
 
+pub word_merged : (w : List ℕ) (ss : List Span) → spans_of_word w ≡ Some ss → is_merged ss ≡ true
+word_merged w ss e = (spans_found w ss e).merged
+
 dash_fails : (us : List Span) → spans_in (codes "-") ≡ Ok us → ⊥
 unfolding spans_in turn_at element_at
 dash_fails us e = cc
 
-spans_again : (ss : List Span) → is_merged ss ≡ true → AreUsable ss → spans_of_word (spans_word ss) ≡ Some ss
+pub spans_again : (ss : List Span) → is_merged ss ≡ true → AreUsable ss → spans_of_word (spans_word ss) ≡ Some ss
 spans_again [] m u = refl
 spans_again (s ∷ ss) m u =
     let w = spans_text (s ∷ ss) in
@@ -288,7 +291,7 @@ pub set_again : (s : Gtids) → IsWrittenSet s → set_of_word (set_text s) ≡ 
 set_again s h = ap (option_map (set_with set.empty)) (spans_again (runs s) h.merged h.usable) ∙ ap Some (with_none (runs s) ∙ h.whole)
 
 -- a set's word has no blank and no line feed
-spans_word_lacks : (c : ℕ) (ss : List Span) → ((b : ℕ) → is_set_byte b ≡ true → not (eqb b c) ≡ true) → not (eqb 45 c) ≡ true → AreUsable ss → lacks c (spans_word ss) ≡ true
+pub spans_word_lacks : (c : ℕ) (ss : List Span) → ((b : ℕ) → is_set_byte b ≡ true → not (eqb b c) ≡ true) → not (eqb 45 c) ≡ true → AreUsable ss → lacks c (spans_word ss) ≡ true
 spans_word_lacks c [] h dash u = rw dash refl
 spans_word_lacks c (s ∷ ss) h dash u = all_weaker is_set_byte (λ b. not (eqb b c)) (spans_text (s ∷ ss)) h (behind_set None (s ∷ ss) u)
 

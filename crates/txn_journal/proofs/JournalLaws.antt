@@ -28,7 +28,7 @@ use Rattle.txn_journal.specs.Stamps.{no_stamps}
 use Rattle.txn_journal.specs.Lines.{Numbers, takes, stamp_in}
 use Rattle.txn_journal.specs.Stream.{Judge}
 use Rattle.txn_journal.specs.Machine.{Standing, empty, is_last, is_within, fits, open_entry, close_entry, add, begin, judge}
-use Rattle.txn_journal.specs.Spelling.{Line, Header, Previous, Begin, Makes, End, Close, numbers_text, change_text, line_text, lines_text, numbers_of, entry_lines, entries_lines, front_lines, journal_lines, spelling_as, FitsChange, FitsEntry, IsWritten, IsStamp, AreStamps, WritesAs, Writes}
+use Rattle.txn_journal.specs.Spelling.{Line, Header, Previous, Begin, Makes, End, Close, numbers_text, change_text, line_text, lines_text, numbers_of, entry_lines, entries_lines, front_lines, journal_lines, spelling_as, FitsChange, FitsEntry, IsWritten, IsStamp, AreStamps, WritesAs, WritesPlain}
 use Rattle.row_images.specs.Images.{values_text, AreValues}
 use Rattle.txn_journal.specs.declared.lines.LinePlace.TheVariants as places
 use Rattle.txn_journal.specs.declared.lines.Version.{Version}
@@ -37,7 +37,7 @@ use Rattle.txn_journal.proofs.NameLemmas.{name_no_feed}
 use Rattle.txn_journal.proofs.SplitLaws.{joined_lacks, count_no_feed}
 use Rattle.row_images.proofs.ImageLaws.{texts_lack}
 use Rattle.txn_journal.proofs.GtidLaws.{gtid_set_bytes, is_set_byte, set_no_feed, set_no_feeds, none_written}
-use Rattle.txn_journal.specs.Reading.{journals_as, journals, WrittenJournal, as_written, IsWrittenAs, written_journals}
+use Rattle.txn_journal.specs.Reading.{journals_as, WrittenJournal, as_written, IsWrittenAs}
 use Rattle.txn_journal.proofs.FormatLaws.{Leads, leads_none, leads_one, leads_both, Laws}
 use Rattle.txn_journal.specs.Causes.{word_for, AreCounts, HasNumbers, FitsLine, HasImages, FitsAt, wording}
 use Rattle.txn_journal.proofs.LineReads.{body_of, put, judge_reads, rest_laws}
@@ -381,7 +381,7 @@ laws_as {V} due value Spelled seen =
           let end = record s { version = k.version; stamps = stamps; journal = k.journal } in
           let text : lines_text (ls ++ k.more) ≡ spelling_as k.version stamps k.journal = ap (λ (x : List Line). lines_text (x ++ k.more)) (sym h.1) ∙ ap lines_text (sym k.whole) in
           record { value = value end; more = k.more; writes = seen.spelled (lines_text (ls ++ k.more)) end (is, record { written = k.fits; stamps_fit = k.stamps_fit; text = text }) };
-      judges = λ s ls line h. MatchResult-weaker (judge None s line) (judged_line None s line h.2)
+      judges = λ s ls line h one. MatchResult-weaker (judge None s line) (judged_line None s line h.2)
           (λ t k. record { l = k.l; text = k.text; sound = (k.keeps.same_due ∙ h.0, k.keeps.says ∙ ap (λ (x : List Line). x ++ k.l ∷ []) h.1, k.keeps.sound) })
           (λ c k. k);
       ends = λ s ls h last.
@@ -398,17 +398,22 @@ laws_as {V} due value Spelled seen =
       reads_open = λ bytes v w.
           let x = seen.written bytes v w in
           let r = reads_to due x.0.version x.0.stamps bytes x.0.journal x.1.0 x.1.1 in
-          record { lines = journal_lines x.0.version x.0.stamps x.0.journal; last = r.last; parts = x.1.1.text; leads = r.leads; done = r.done; value = x.2 r.last r.written };
+          record { lines = journal_lines x.0.version x.0.stamps x.0.journal; last = r.last; parts = x.1.1.text; leads = r.leads };
     }
 
-pub journal_laws : Laws journals (IsSoundAlone Any)
-journal_laws = laws_as Any (λ s. s.journal) Writes (record {
+-- there judging loosely is judging
+pub loose_as : {V : Type 0} (due : Due) (value : Standing → V) (Spelled : List ℕ → V → Type 0) (seen : Seen due value Spelled) (s : Standing) (line : List ℕ) → (laws_as due value Spelled seen).loose s line ≡ judge None s line
+unfolding judge laws_as
+loose_as due value Spelled seen s line = refl
+
+pub journal_seen : Seen Any (λ s. s.journal) WritesPlain
+journal_seen = record {
   spelled = λ bytes s w. (s.version, s.stamps, w.1);
   written = λ bytes j w. (record { version = w.0; stamps = w.1; journal = j }, (refl, w.2), λ s e. ap (λ (x : WrittenJournal). x.journal) e);
-})
+}
 
-pub written_laws : (due : Due) → Laws (written_journals due) (IsSoundAlone due)
-written_laws due = laws_as due as_written (IsWrittenAs due) (record { spelled = λ bytes s w. w; written = λ bytes v w. (v, w, λ s e. e) })
+pub written_seen : (due : Due) → Seen due as_written (IsWrittenAs due)
+written_seen due = record { spelled = λ bytes s w. w; written = λ bytes v w. (v, w, λ s e. e) }
 
 -- version 1 has no numbers
 pub none_stamped : (place : ℕ) (stamps : List ℕ) (es : List Entry) → AreStamps One place stamps es → stamps ≡ no_stamps es

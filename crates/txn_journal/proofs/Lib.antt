@@ -10,6 +10,7 @@ pub mod SoundLines
 pub mod GtidLaws
 pub mod NearGtids
 pub mod JournalLaws
+pub mod JournalPlaces
 pub mod TakenLines
 pub mod WriteLemmas
 pub mod WrittenLaws
@@ -17,6 +18,9 @@ pub mod BundleWriting
 pub mod Judged
 pub mod WordLaws
 pub mod FormatLaws
+pub mod PlaceLines
+pub mod PlacedLaws
+pub mod PlacedSteps
 pub mod SplitLaws
 pub mod ShapeWords
 pub mod ShapeLaws
@@ -30,6 +34,7 @@ pub mod EntrySteps
 pub mod BundleSound
 pub mod BundleTaken
 pub mod BundleLaws
+pub mod BundlePlaces
 pub mod BundleKept
 pub mod Widening
 pub mod NewWords
@@ -39,3 +44,4 @@ pub mod FullSets
 pub mod CountedEnds
 pub mod FirstLines
 pub mod TimestampedLaws
+pub mod SpansWithin

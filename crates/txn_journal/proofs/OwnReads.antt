@@ -1,5 +1,5 @@
 -- A bundle's own lines: reading is sound and complete, and then the line acts.
-use Rattle.std.proofs.Common.{◌≡◌, ℕ, Bool, true, false, not, cond, eqb, List, [], ◌∷◌, ◌++◌, Option, Some, None, Ok, Err, refl, sym, ap, subst, ◌∙◌, Result}
+use Rattle.std.proofs.Common.{length, ◌<◌, arith, ◌≡◌, ℕ, Bool, true, false, not, cond, eqb, List, [], ◌∷◌, ◌++◌, Option, Some, None, Ok, Err, refl, sym, ap, subst, ◌∙◌, Result}
 use Rattle.std.specs.Prelude.{codes, MatchResult}
 use Rattle.std.specs.List.{list_all}
 use Rattle.std.specs.Str.{bytes_eq}
@@ -15,7 +15,7 @@ use Rattle.gtid_set.proofs.SpanLemmas.{all_weaker}
 use Rattle.rows.specs.declared.limits.Limits.{Limits}
 use Rattle.txn_journal.specs.Versions.{limits_of, is_named}
 use Rattle.row_images.specs.Words.{first_word, others}
-use Rattle.journal_words.specs.Gtids.{is_ascii_byte, same_or_none, source_of_word}
+use Rattle.journal_words.specs.Gtids.{is_ascii_byte, same_or_none, source_of_word, spans_of_word}
 use Rattle.row_images.proofs.Counts.{lacks, word_alone, word_and_more, first_word-front, others-front, first_word-whole, others-whole}
 use Rattle.row_images.proofs.ValueLaws.{where_same-again}
 use Rattle.txn_journal.specs.Words.{name_of}
@@ -30,9 +30,10 @@ use Rattle.txn_journal.specs.declared.bundle_draft.Word.{Word}
 use Rattle.txn_journal.specs.declared.lines.Version.TheVariants.{One, Two, Three}
 use Rattle.std.specs.FinSet as set
 use Rattle.lemmas.proofs.Lists.{all_true_append as joins}
-use Rattle.txn_journal.specs.WrittenSets.{set_text}
+use Rattle.gtid_text.specs.declared.Span.{Span}
+use Rattle.txn_journal.specs.WrittenSets.{spans_word, set_text, AreWrittenSpans}
 use Rattle.txn_journal.proofs.NameLemmas.{name_no_blank, name_no_feed}
-use Rattle.txn_journal.proofs.GtidLaws.{is_set_byte, set_ascii, set_no_feed, source_set, source_small, same_found, ascii_found, set_again, set_no_feeds}
+use Rattle.txn_journal.proofs.GtidLaws.{is_set_byte, set_ascii, set_no_feed, source_set, source_small, same_found, ascii_found, SpansFound, spans_found, spans_again, spans_word_lacks, set_again, set_no_feeds}
 use Rattle.txn_journal.proofs.JournalLaws.{values_one, table_one}
 use Rattle.journal.specs.Writing.{is_image_writable}
 use Rattle.txn_journal.specs.declared.fault.Cause.{Cause}
@@ -45,15 +46,28 @@ use Rattle.txn_journal.proofs.ImageLaws.{image_both, image_again}
 use Rattle.txn_journal.proofs.LineReads.{version_both, set_both, nothing_both, name_both, table_both, table_again, with_more, with_none, with_table as table_line}
 use Rattle.txn_journal.proofs.ShapeWords.{shape_both, shape_again, shape_one, reference_both, reference_again, reference_one}
 use Rattle.txn_journal.specs.References.{reference_text, reference_behind}
-use Rattle.txn_journal.specs.Assumptions.{assumption_text, next_assumption, FitsAssumption, last_of, may_follow, name_behind, named_in, assumption_of, assumption_in}
+use Rattle.txn_journal.specs.Assumptions.{assumption_text, next_assumption, FitsAssumption, last_of, may_follow, name_behind, named_in, spans_behind, some_spans, part_behind, part_in, assumption_of, assumption_in}
 use Rattle.txn_journal.specs.declared.assumptions.Assumption.{Assumption}
-use Rattle.txn_journal.specs.declared.assumptions.Assumption.TheVariants.{Executed, Checksums, Ignored, References}
+use Rattle.txn_journal.specs.declared.assumptions.Assumption.TheVariants.{Executed, Checksums, Opening, Ignored, References, Rows}
 
 -- ---- the line of an assumption
 
 behind_both : (limits : Limits) (rest : Option (List ℕ)) → MatchResult (name_behind limits rest) (λ name. (rest ≡ Some name) × (is_named limits name ≡ true)) IsBody
 behind_both limits None = tt
 behind_both limits (Some word) = found_weaker (some_or_body (name_of limits word)) _ _ _ (λ name h. (ap Some h.0, h.1)) (name_both limits word)
+
+some_spans_both : (word : List ℕ) (spans : List Span) → SpansFound word spans → MatchResult (some_spans spans) (λ spans. (Some word ≡ Some (spans_word spans)) × AreWrittenSpans spans × (0 < length spans)) IsBody
+some_spans_both word [] f = tt
+some_spans_both word (s ∷ ss) f = (ap Some f.text, record { merged = f.merged; usable = f.usable }, omega arith)
+
+spans_behind_both : (rest : Option (List ℕ)) → MatchResult (spans_behind rest) (λ spans. (rest ≡ Some (spans_word spans)) × AreWrittenSpans spans × (0 < length spans)) IsBody
+spans_behind_both None = tt
+spans_behind_both (Some word) = then_both _ _ (some_or_body (spans_of_word word)) _ (some_both _ _ (spans_of_word word) (λ spans e. spans_found word spans e) tt) (λ spans f. some_spans_both word spans f)
+
+part_both : (limits : Limits) (rest : Option (List ℕ)) → MatchResult (part_behind limits rest) (λ part. (rest ≡ Some (part.0 ++ 32 ∷ spans_word part.1)) × (is_named limits part.0 ≡ true) × AreWrittenSpans part.1 × (0 < length part.1)) IsBody
+part_both limits None = tt
+part_both limits (Some text) = then_both _ _ (some_or_body (name_of limits (first_word text))) _ (name_both limits (first_word text)) (λ name n. then_both _ _ (spans_behind (others text)) _ (spans_behind_both (others text))
+    (λ spans f. (ap Some (word_and_more text (spans_word spans) f.0 ∙ ap (λ (w : List ℕ). w ++ 32 ∷ spans_word spans) n.0), n.1, f.1, f.2)))
 
 abbrev Says : Limits → List ℕ → Assumption → Type 0
 Says limits text a = (text ≡ assumption_text a) × FitsAssumption limits a
@@ -64,15 +78,23 @@ named_both : (limits : Limits) (text word : List ℕ) (make : List ℕ → Assum
 named_both limits text word make first says fits = then_both _ _ (name_behind limits (others text)) _ (behind_both limits (others text)) (λ name h.
     (word_and_more text name h.0 ∙ ap (λ (w : List ℕ). w ++ 32 ∷ name) first ∙ sym (says name), fits name h.1))
 
+-- a word, and a name and spans behind it
+parted_both : (limits : Limits) (text word : List ℕ) (make : List ℕ → List Span → Assumption) → first_word text ≡ word → ((name : List ℕ) → (spans : List Span) → assumption_text (make name spans) ≡ word ++ 32 ∷ (name ++ 32 ∷ spans_word spans))
+    → ((name : List ℕ) → (spans : List Span) → is_named limits name ≡ true → AreWrittenSpans spans × (0 < length spans) → FitsAssumption limits (make name spans)) → MatchResult (part_in limits make (others text)) (Says limits text) IsBody
+parted_both limits text word make first says fits = then_both _ _ (part_behind limits (others text)) _ (part_both limits (others text)) (λ part h.
+    (word_and_more text (part.0 ++ 32 ∷ spans_word part.1) h.0 ∙ ap (λ (w : List ℕ). w ++ 32 ∷ (part.0 ++ 32 ∷ spans_word part.1)) first ∙ sym (says part.0 part.1), fits part.0 part.1 h.1 (h.2, h.3)))
+
 says_both : (limits : Limits) (text : List ℕ) → MatchResult (assumption_of limits (first_word text) (others text)) (Says limits text) IsBody
 unfolding assumption_of
 says_both limits text =
     let is_word = λ (word : List ℕ) (e : bytes_eq (first_word text) word ≡ true). (bytes_eq-Decides (first_word text) word).0 e in
     if_both _ _ (bytes_eq (first_word text) (codes "executed")) _ _ (λ e. named_both limits text (codes "executed") Executed (is_word (codes "executed") e) (λ name. refl) (λ name h. h))
     (λ no. if_both _ _ (bytes_eq (first_word text) (codes "checksums")) _ _ (λ e. named_both limits text (codes "checksums") Checksums (is_word (codes "checksums") e) (λ name. refl) (λ name h. h))
+    (λ no. if_both _ _ (bytes_eq (first_word text) (codes "opening")) _ _ (λ e. parted_both limits text (codes "opening") Opening (is_word (codes "opening") e) (λ name spans. refl) (λ name spans n s. (n, s.0, s.1)))
     (λ no. if_both _ _ (bytes_eq (first_word text) (codes "ignored")) _ _ (λ e. named_both limits text (codes "ignored") Ignored (is_word (codes "ignored") e) (λ name. refl) (λ name h. h))
     (λ no. if_both _ _ (bytes_eq (first_word text) (codes "references")) _ _ (λ e. then_both _ _ (nothing_in (others text)) _ (nothing_both (others text)) (λ nothing none. (word_alone text none ∙ is_word (codes "references") e, tt)))
-    (λ no. tt))))
+    (λ no. if_both _ _ (bytes_eq (first_word text) (codes "rows")) _ _ (λ e. then_both _ _ (nothing_in (others text)) _ (nothing_both (others text)) (λ nothing none. (word_alone text none ∙ is_word (codes "rows") e, tt)))
+    (λ no. tt))))))
 
 assumption_both : (limits : Limits) (rest : Option (List ℕ)) → MatchResult (assumption_in limits rest) (λ a. (rest ≡ Some (assumption_text a)) × FitsAssumption limits a) IsBody
 assumption_both limits None = tt
@@ -87,8 +109,12 @@ said_again : (limits : Limits) (a : Assumption) → FitsAssumption limits a → 
 unfolding assumption_of
 said_again limits (Executed name) fits = rw fits refl
 said_again limits (Checksums name) fits = rw fits refl
+said_again limits (Opening name []) fits = absurd (omega (arith, fits.2))
+said_again limits (Opening name (s ∷ ss)) fits =
+    let spans : List Span = s ∷ ss in rw (others-front name (spans_word spans) (name_no_blank limits name fits.0), first_word-front name (spans_word spans) (name_no_blank limits name fits.0), fits.0, spans_again spans fits.1.merged fits.1.usable) refl
 said_again limits (Ignored name) fits = rw fits refl
 said_again limits References fits = refl
+said_again limits Rows fits = refl
 
 pub next_again : (limits : Limits) (before : List Assumption) (a : Assumption) → FitsAssumption limits a → may_follow (last_of before) a ≡ true → next_assumption limits before (Some (assumption_text a)) ≡ Ok a
 next_again limits before a fits follows = rw (said_again limits a fits, follows) refl
@@ -96,8 +122,10 @@ next_again limits before a fits follows = rw (said_again limits a fits, follows)
 pub assumption_one : (limits : Limits) (a : Assumption) → FitsAssumption limits a → lacks 10 (assumption_text a) ≡ true
 assumption_one limits (Executed name) fits = name_no_feed limits name fits
 assumption_one limits (Checksums name) fits = name_no_feed limits name fits
+assumption_one limits (Opening name spans) fits = joins (λ b. not (eqb b 10)) name (32 ∷ spans_word spans) (name_no_feed limits name fits.0) (spans_word_lacks 10 spans set_no_feed refl fits.1.usable)
 assumption_one limits (Ignored name) fits = name_no_feed limits name fits
 assumption_one limits References fits = refl
+assumption_one limits Rows fits = refl
 
 -- ---- the lines of a bundle
 

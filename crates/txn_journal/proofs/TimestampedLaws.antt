@@ -6,10 +6,10 @@ use Rattle.txn_journal.specs.Lines.{takes}
 use Rattle.txn_journal.specs.Machine.{Standing, header_line, step, judge}
 use Rattle.txn_journal.specs.Stream.{Progress, Stopped, feed_byte, IsWhole}
 use Rattle.txn_journal.specs.Formats.{closing_by}
-use Rattle.txn_journal.specs.Reading.{WrittenJournal, feed_journal_bytes}
+use Rattle.txn_journal.specs.Reading.{WrittenJournal}
 use Rattle.rows.specs.declared.limits.Limits.TheVariants.{Narrow}
 use Rattle.txn_journal.specs.Spelling.{IsWritten, WritesAs}
-use Rattle.txn_journal.specs.Timestamped.{TimestampedValue, timestamped_of, WritesTimestamped, timestamped_journals, with_timestamps, timestamped_text, HasText, IsReadBack, timestamped_start, closing_timestamped, BeginsAsVersionOne, first_line_version}
+use Rattle.txn_journal.specs.Timestamped.{TimestampedValue, timestamped_of, WritesTimestamped, timestamped_journals, with_timestamps, timestamped_text, HasText, IsReadBack, timestamped_start, feed_timestamped, closing_timestamped, BeginsAsVersionOne, first_line_version}
 use Rattle.txn_journal.specs.declared.fault.JournalFault.{JournalFault}
 use Rattle.txn_journal.specs.declared.lines.Version.{Version}
 use Rattle.txn_journal.specs.declared.lines.Version.TheVariants.{One, Two, Three}
@@ -42,15 +42,15 @@ right_read tables j w =
 
 -- a text of version 1 is refused at its first line
 
-stops_at_first : feed_journal_bytes timestamped_start (codes "journal 1\n") ≡ Stopped first_line_version
+stops_at_first : feed_timestamped timestamped_start (codes "journal 1\n") ≡ Stopped first_line_version
 unfolding feed_byte judge step header_line
 stops_at_first = refl
 
-pub older_refused : (bytes : List ℕ) → BeginsAsVersionOne bytes → closing_timestamped (feed_journal_bytes timestamped_start bytes) ≡ Err first_line_version
+pub older_refused : (bytes : List ℕ) → BeginsAsVersionOne bytes → closing_timestamped (feed_timestamped timestamped_start bytes) ≡ Err first_line_version
 unfolding closing_by
 older_refused bytes (rest, is) =
-    ap (λ (x : List ℕ). closing_timestamped (feed_journal_bytes timestamped_start x)) is
-    ∙ ap closing_timestamped (eats_append (judge None) timestamped_start (codes "journal 1\n") rest ∙ ap (λ (p : Progress Standing). feed_journal_bytes p rest) stops_at_first ∙ stopped_stays (judge None) first_line_version rest)
+    ap (λ (x : List ℕ). closing_timestamped (feed_timestamped timestamped_start x)) is
+    ∙ ap closing_timestamped (eats_append (judge None) timestamped_start (codes "journal 1\n") rest ∙ ap (λ (p : Progress Standing). feed_timestamped p rest) stops_at_first ∙ stopped_stays (judge None) first_line_version rest)
 
-pub older_whole : (r : Result TimestampedValue JournalFault) (bytes : List ℕ) → IsWhole r (closing_timestamped (feed_journal_bytes timestamped_start bytes)) → BeginsAsVersionOne bytes → IsWhole r (Err first_line_version)
+pub older_whole : (r : Result TimestampedValue JournalFault) (bytes : List ℕ) → IsWhole r (closing_timestamped (feed_timestamped timestamped_start bytes)) → BeginsAsVersionOne bytes → IsWhole r (Err first_line_version)
 older_whole r bytes whole begins = subst (λ (w : Result TimestampedValue JournalFault). IsWhole r w) (older_refused bytes begins) whole

@@ -8,6 +8,7 @@ use Rattle.std.specs.Cmp.Lexicographic.{slice_cmp}
 use Rattle.std.proofs.lemmas.Bool.{and_parts, or_parts, lt-leb}
 use Rattle.std.proofs.lemmas.Bool.Decides.{nat_tests}
 use Rattle.std.proofs.lemmas.List.{length-map, map-append}
+use Rattle.gtid_set.specs.Sets.{Gtids}
 use Rattle.rows.specs.declared.schema.Table.{Table}
 use Rattle.rows.specs.declared.change.Key.{Key}
 use Rattle.rows.specs.declared.change.Change.{Change}
@@ -38,7 +39,7 @@ use Rattle.txn_journal.specs.Shapes.{FitsTable, shape_for}
 use Rattle.txn_journal.specs.Spelling.{FitsChange, FitsEntry, IsWritten}
 use Rattle.txn_journal.specs.Stamps.{all_stamps}
 use Rattle.txn_journal.specs.BundleStates.{BundleValue, ok_rows, with_opening}
-use Rattle.txn_journal.specs.BundleText.{BundleLine, Own, Heads, Names, Starts, Has, Done, table_lines, reference_lines, row_lines, assumption_lines, channels_lines, bundle_text, bundle_spelling, FitsRow, AreAdded, put_all, AreOpening, AreNamed, entry_fits, AreBrought, IsWrittenBundle, IsWritableBy, spelling_by, WritesBundleBy}
+use Rattle.txn_journal.specs.BundleText.{BundleLine, Own, Heads, Names, Starts, Has, Done, table_lines, reference_lines, row_lines, assumption_lines, channels_lines, bundle_text, bundle_spelling, FitsRow, AreAdded, put_all, AreOpening, AreNamed, entry_fits, AreBrought, IsWrittenBundle, IsWritableBy, spelling_by, WritesPlainBundle}
 use Rattle.txn_journal.specs.References.{AreReferences}
 use Rattle.txn_journal.specs.Assumptions.{AreAssumptions}
 use Rattle.txn_journal.specs.declared.references.Reference.{Reference}
@@ -46,7 +47,6 @@ use Rattle.txn_journal.specs.declared.assumptions.Assumption.{Assumption}
 use Rattle.rows.specs.Listing.{rows_listed}
 use Rattle.txn_journal.specs.Lines.{takes}
 use Rattle.txn_journal.specs.Versions.{limits_of}
-use Rattle.txn_journal.specs.BundleReading.{bundles}
 use Rattle.txn_journal.specs.Widened.{widened_table, widened_start, widened, WidensByThree, IsReadWidened}
 use Rattle.txn_journal.specs.declared.bundle.BundleChannel.{BundleChannel}
 use Rattle.txn_journal.specs.declared.fault.Cause.{Cause}
@@ -57,10 +57,10 @@ use Rattle.txn_journal.proofs.Judged.{bind_ok}
 use Rattle.txn_journal.proofs.NameLemmas.{wide_name}
 use Rattle.txn_journal.proofs.ShapeLaws.{allowed}
 use Rattle.txn_journal.proofs.SoundLines.{all_wide, image_wide}
-use Rattle.txn_journal.proofs.FormatLaws.{reads_back}
 use Rattle.txn_journal.proofs.BundleTaken.{version_is}
-use Rattle.txn_journal.proofs.BundleLaws.{IsSoundBundle, bundle_laws, relisted_by}
-use Rattle.txn_journal.specs.declared.lines.Due.TheVariants.{Any}
+use Rattle.txn_journal.proofs.BundleLaws.{relisted_by}
+use Rattle.txn_journal.proofs.BundlePlaces.{plain_bundle, read_by_any}
+use Rattle.txn_journal.specs.declared.lines.Due.TheVariants.{Only}
 
 -- ---- tables and keys
 
@@ -285,9 +285,9 @@ references_wide : (ts : List Table) (rs : List Reference) → AreReferences Narr
 references_wide ts [] h = record { few = h.few; each = tt }
 references_wide ts (r ∷ rs) h = absurd h.each.0.wide
 
-assumed_wide : (ts : List Table) (cs : List BundleChannel) (said : List Assumption) → AreAssumptions Narrow ts cs said → AreAssumptions Wide (map widened_table ts) cs said
-assumed_wide ts cs [] h = record { few = h.few; each = tt }
-assumed_wide ts cs (a ∷ said) h = absurd h.each.0
+assumed_wide : (opened : Gtids) (start wide : Database) (cs : List BundleChannel) (said : List Assumption) → AreAssumptions Narrow opened start cs said → AreAssumptions Wide opened wide cs said
+assumed_wide opened start wide cs [] h = record { few = h.few; each = tt }
+assumed_wide opened start wide cs (a ∷ said) h = absurd h.each.0
 
 pub bundle_wide : (rows : List TableRow) (b : BundleValue) → IsWrittenBundle Two rows b → IsWrittenBundle Three rows (widened b)
 bundle_wide rows b w = record {
@@ -299,7 +299,7 @@ bundle_wide rows b w = record {
   named = named_wide [] b.channels w.named;
   few = w.few;
   brought = brought_wide b.start.schema b.channels b.journals w.brought;
-  assumed = assumed_wide b.start.schema b.channels b.assumptions w.assumed;
+  assumed = assumed_wide b.opened b.start (widened b).start b.channels b.assumptions w.assumed;
 }
 
 -- ---- its text
@@ -323,16 +323,14 @@ by_two One rows b narrow w = relisted_by One rows b w
 by_two Two rows b narrow w = relisted_by Two rows b w
 by_two Three rows b narrow w = absurd cc
 
-pub widens : WidensByThree
-widens version bytes b narrow (v, is, w) =
+three_plain : (version : Version) (bytes : List ℕ) (b : BundleValue) → limits_of version ≡ Narrow → WritesPlainBundle (Only version) bytes b → WritesPlainBundle (Only Three) (spelling_by Three b) (widened b)
+three_plain version bytes b narrow (v, is, w) =
     let rows = rows_listed b.start.rows in
     let two = by_two v w.rows b (ap limits_of (version_is version v is) ∙ narrow) w.written in
     (Three, refl, record { rows = rows; written = bundle_wide rows b two; text = sym (spelling_wide rows b) })
 
+pub widens : WidensByThree
+widens version bytes b narrow w = plain_bundle (Only Three) (spelling_by Three b) (widened b) (three_plain version _ b narrow w.written)
+
 pub widens_read : IsReadWidened
-widens_read version bytes b narrow w =
-    let u = widens version bytes b narrow w in
-    reads_back (bundles Any) (IsSoundBundle Any) (bundle_laws Any) (spelling_by Three b) (widened b) (u.0, any_version u.0, u.2)
-  where
-    any_version : (v : Version) → takes Any v ≡ true
-    any_version v = refl
+widens_read version bytes b narrow w = read_by_any Three (spelling_by Three b) (widened b) (three_plain version _ b narrow w.written)

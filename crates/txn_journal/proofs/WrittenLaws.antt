@@ -30,6 +30,7 @@ use Rattle.txn_journal.specs.Timestamped.{WritesTimestamped, with_timestamps}
 use Rattle.txn_journal.specs.WrittenSets.{IsWrittenSet}
 use Rattle.txn_journal.specs.declared.lines.Version.TheVariants.{One, Two}
 use Rattle.txn_journal.proofs.BundleLaws.{right_are_stamps}
+use Rattle.txn_journal.proofs.JournalPlaces.{plain_journal}
 
 -- ---- sets
 
@@ -89,7 +90,7 @@ few_written limits j keeps sources parts fits = record {
 }
 
 pub spelled_written : (bytes : List ℕ) (j : JournalValue) → IsWritten Narrow j → bytes ≡ spelling j → Writes bytes j
-spelled_written bytes j w e = (One, no_stamps j.entries, record { written = w; stamps_fit = right_are_stamps One [] j.entries; text = e })
+spelled_written bytes j w e = plain_journal bytes j (One, no_stamps j.entries, record { written = w; stamps_fit = right_are_stamps One [] j.entries; text = e })
 
 pub stamped_written : (bytes : List ℕ) (tables : List Table) (j : JournalValue) → IsWritten Narrow j → bytes ≡ spelling_as Two (right_stamps Two tables j.entries) j → WritesTimestamped bytes (with_timestamps tables j)
 stamped_written bytes tables j w e = record { written = w; stamps_fit = right_are_stamps Two tables j.entries; text = e }

@@ -1,8 +1,7 @@
 -- How far a reader of bundles has come.
 use Rattle.txn_journal.specs.declared.bundle_reader.BundleReader.{BundleReader}
-use Rattle.txn_journal.specs.Stream.{Progress}
-use Rattle.txn_journal.specs.BundleStates.{BundleStanding}
+use Rattle.txn_journal.specs.BundleReading.{BundleProgress}
 use Rattle.txn_journal.specs.Feeds.{progress}
 
-abbrev pub bundle_reading : BundleReader → Progress BundleStanding
+abbrev pub bundle_reading : BundleReader → BundleProgress
 bundle_reading r = progress r.feed

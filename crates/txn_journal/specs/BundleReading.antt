@@ -4,8 +4,10 @@ use Rattle.gtid_set.specs.declared.fault.SetFault.{SetFault}
 use Rattle.rows.specs.declared.change.TableRow.{TableRow}
 use Rattle.txn_journal.specs.declared.fault.JournalFault.{JournalFault}
 use Rattle.txn_journal.specs.Stream.{Progress}
+use Rattle.txn_journal.specs.PlacedFormats.{placed}
+use Rattle.txn_journal.specs.declared.placed.Placed.{Placed}
 use Rattle.txn_journal.specs.Formats.{Format, start_of, feed_bytes_by, IsFaultBy, closing_by}
-use Rattle.txn_journal.specs.BundleStates.{BundleValue, BundleStanding, no_bundle, is_done, judge_bundle, IsFullBundle}
+use Rattle.txn_journal.specs.BundleStates.{BundleValue, BundleStanding, no_bundle, is_done, bundle_takes_places, judge_bundle, IsFullBundle, CountsFirst}
 use Rattle.row_images.specs.Words.{first_word}
 use Rattle.txn_journal.specs.Lines.{keyword_of}
 use Rattle.txn_journal.specs.Machine.{is_within}
@@ -15,7 +17,7 @@ use Rattle.txn_journal.specs.declared.lines.Version.{Version}
 use Rattle.txn_journal.specs.declared.lines.LinePlace.{LinePlace}
 use Rattle.txn_journal.specs.declared.bundle_draft.Part.{Part}
 use Rattle.txn_journal.specs.declared.bundle_draft.Part.TheVariants as parts
-use Rattle.txn_journal.specs.BundleText.{BundleLine, bundle_line_text, WritesBundleBy, AlmostWritesBundle}
+use Rattle.txn_journal.specs.BundleText.{BundleLine, bundle_line_text, newest_bundle_header, WritesPlainBundle, AlmostWritesBundle}
 use Rattle.txn_journal.specs.BundleLinesSoFar.{bundle_lines_so_far}
 use Rattle.txn_journal.specs.BundleCauses.{HasBundleCause}
 use Rattle.txn_journal.specs.declared.lines.Due.{Due}
@@ -33,9 +35,9 @@ abbrev pub is_entry_open : Part → LinePlace → Bool
 is_entry_open parts.Journal place = is_within place
 is_entry_open _ place = false
 
--- bundles of a version that is due, or of any
-abbrev pub bundles : Due → Format
-bundles due = record {
+-- bundles of a version that is due, or of any, without places
+abbrev pub plain_bundles : Due → Format
+plain_bundles due = record {
   Line = BundleLine;
   State = BundleStanding;
   Value = BundleValue;
@@ -45,7 +47,7 @@ bundles due = record {
   value = λ s. s.bundle;
   IsFull = IsFullBundle;
   line_text = bundle_line_text;
-  Writes = WritesBundleBy due;
+  Writes = WritesPlainBundle due;
   AlmostWrites = AlmostWritesBundle due;
   is_open = λ s. is_entry_open s.part s.draft.place;
   is_inside = λ line. is_inside (keyword_of (first_word line));
@@ -53,21 +55,33 @@ bundles due = record {
   HasCause = HasBundleCause;
 }
 
+-- the same, and in version 3 with places before entries
+abbrev pub bundles : Due → Format
+bundles due = placed (plain_bundles due) bundle_takes_places newest_bundle_header
+
+-- how far a text has come
+abbrev pub BundleProgress : Type 0
+BundleProgress = Progress (Placed BundleStanding)
+
 -- before the first byte
-abbrev pub bundle_start : Due → Progress BundleStanding
+abbrev pub bundle_start : Due → BundleProgress
 bundle_start due = start_of (bundles due)
 
 -- a bundle, byte by byte
-abbrev pub feed_bundle_bytes : Progress BundleStanding → List ℕ → Progress BundleStanding
+abbrev pub feed_bundle_bytes : BundleProgress → List ℕ → BundleProgress
 feed_bundle_bytes p bytes = feed_bytes_by (bundles Any) p bytes
 
 -- why bytes are not taken, though nothing is wrong with them: out of memory, or the opening set or that of a channel's journal has too many
 -- sources or intervals after some of them
-abbrev pub IsFaultOfBundle : Progress BundleStanding → List ℕ → SetFault → Type 0
+abbrev pub IsFaultOfBundle : BundleProgress → List ℕ → SetFault → Type 0
 IsFaultOfBundle p bytes fault = IsFaultBy (bundles Any) p bytes fault
 
+-- sources are counted before memory is asked for, at the line that comes next
+abbrev pub CountsFirstHere : Placed BundleStanding → Type 0
+CountsFirstHere p = CountsFirst p.made
+
 -- the end of the text
-abbrev pub closing_bundle : Progress BundleStanding → Result BundleValue JournalFault
+abbrev pub closing_bundle : BundleProgress → Result BundleValue JournalFault
 closing_bundle p = closing_by (bundles Any) p
 
 -- the bytes are read as this bundle, by the fold over them
@@ -76,4 +90,4 @@ IsReadAs bytes b = closing_bundle (feed_bundle_bytes (bundle_start Any) bytes) �
 
 -- In whatever two pieces bytes come, what is read is the same.
 abbrev pub AnyCutOfBundles : Type 0
-AnyCutOfBundles = (p : Progress BundleStanding) (front back : List ℕ) → feed_bundle_bytes p (front ++ back) ≡ feed_bundle_bytes (feed_bundle_bytes p front) back
+AnyCutOfBundles = (p : BundleProgress) (front back : List ℕ) → feed_bundle_bytes p (front ++ back) ≡ feed_bundle_bytes (feed_bundle_bytes p front) back

@@ -16,7 +16,7 @@ use Rattle.rows.specs.Apply.{Rows, apply}
 use Rattle.rows.specs.Fits.{misfit}
 use Rattle.rows.specs.Database.{Database, opening}
 use Rattle.rows.specs.declared.limits.Limits.{Limits}
-use Rattle.txn_journal.specs.Versions.{limits_of, has_references}
+use Rattle.txn_journal.specs.Versions.{limits_of, has_references, has_log_places}
 use Rattle.txn_journal.specs.References.{ReferenceShape, reference_behind, reference_to, most_references}
 use Rattle.txn_journal.specs.Assumptions.{has_channel, next_assumption, may_assume, most_assumptions}
 use Rattle.txn_journal.specs.declared.references.Reference.{Reference}
@@ -27,7 +27,7 @@ use Rattle.row_images.specs.Words.{first_word, others}
 use Rattle.journal_words.specs.Gtids.{source_of_word}
 use Rattle.txn_journal.specs.Words.{name_of}
 use Rattle.txn_journal.specs.Lines.{◌>>=◌, some_or_body, due, version_in, set_in, nothing_in, table_in, image_in}
-use Rattle.txn_journal.specs.Machine.{Standing, empty, is_last, is_within, open_entry, close_entry, IsFull, IsInEntry, judge}
+use Rattle.txn_journal.specs.Machine.{Standing, empty, is_last, is_between, is_within, open_entry, close_entry, IsFull, IsInEntry, judge}
 use Rattle.txn_journal.specs.Stamps.{right_stamp}
 use Rattle.txn_journal.specs.Shapes.{added_table}
 use Rattle.txn_journal.specs.declared.bundle.BundleChannel.{BundleChannel}
@@ -71,6 +71,14 @@ pub record BundleStanding : Type 0 where
 -- before the first line
 abbrev pub no_bundle : Due → BundleStanding
 no_bundle due = record { part = parts.Header; due = due; version = One; tables = []; bundle = bare 0 set.empty []; channel = None; draft = empty Any }
+
+-- in version 3 the place of the entry that comes next may stand there
+abbrev pub takes_places_in : Part → BundleStanding → Bool
+takes_places_in parts.Journal s = is_between s.draft.place && has_log_places s.version
+takes_places_in _ s = false
+
+abbrev pub bundle_takes_places : BundleStanding → Bool
+bundle_takes_places s = takes_places_in s.part s
 
 -- the opening set has too many sources or intervals, or the journal of the channel that is open has seen too many
 abbrev pub IsFullBundle : SetFault → BundleStanding → Type 0
@@ -240,7 +248,7 @@ channel_line s rest = do
 unfoldable pub put_assumption : BundleStanding → Assumption → Result BundleStanding Cause
 put_assumption s a =
     if nat_le most_assumptions (length s.bundle.assumptions) then Err causes.Limit
-    else if may_assume s.bundle.start.schema s.bundle.channels a
+    else if may_assume s.bundle.opened s.bundle.start s.bundle.channels a
     then Ok (record s { part = parts.Assumptions; bundle = record s.bundle { assumptions = s.bundle.assumptions ++ a ∷ [] } })
     else Err causes.Schema
 

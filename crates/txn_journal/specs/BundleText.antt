@@ -27,12 +27,13 @@ use Rattle.txn_journal.specs.declared.assumptions.Assumption.{Assumption}
 use Rattle.txn_journal.specs.BundleStates.{BundleValue, with_opening}
 use Rattle.txn_journal.specs.Spelling.{Line, version_text, image_text, line_text, journal_lines, IsWritten, IsStamp}
 use Rattle.row_images.specs.Images.{AreValues}
+use Rattle.txn_journal.specs.Places.{WritesPlaced}
 use Rattle.txn_journal.specs.Stamps.{right_stamps, all_stamps}
 use Rattle.txn_journal.specs.WrittenSets.{set_text, IsWrittenSet}
 use Rattle.txn_journal.specs.declared.bundle.BundleChannel.{BundleChannel}
 use Rattle.txn_journal.specs.declared.fault.Cause.{Cause}
 use Rattle.txn_journal.specs.declared.lines.Version.{Version}
-use Rattle.txn_journal.specs.declared.lines.Version.TheVariants.{One, Two}
+use Rattle.txn_journal.specs.declared.lines.Version.TheVariants.{One, Two, Three}
 use Rattle.txn_journal.specs.declared.lines.Due.{Due}
 use Rattle.txn_journal.specs.declared.lines.Due.TheVariants.{Any, Only}
 
@@ -73,6 +74,10 @@ own_text Done = codes "done"
 abbrev pub bundle_line_text : BundleLine → List ℕ
 bundle_line_text (Own l) = own_text l
 bundle_line_text (Inner l) = line_text l
+
+-- the first line of a bundle that may have places
+abbrev pub newest_bundle_header : List ℕ
+newest_bundle_header = own_text (Heads Three)
 
 abbrev pub ended_bundle_line : BundleLine → List ℕ
 ended_bundle_line l = bundle_line_text l ++ 10 ∷ []
@@ -185,7 +190,7 @@ pub record IsWrittenBundle (version : Version) (rows : List TableRow) (b : Bundl
   pub named : AreNamed (limits_of version) [] b.channels
   pub few : length b.channels ≤ 256
   pub brought : AreBrought (limits_of version) b.start.schema b.channels b.journals
-  pub assumed : AreAssumptions (limits_of version) b.start.schema b.channels b.assumptions
+  pub assumed : AreAssumptions (limits_of version) b.opened b.start b.channels b.assumptions
 
 -- this version can write it, with its rows in listed order
 abbrev pub IsWritableBy : Version → BundleValue → Type 0
@@ -201,9 +206,13 @@ pub record WritesBundleAs (version : Version) (bytes : List ℕ) (b : BundleValu
   pub written : IsWrittenBundle version rows b
   pub text : bytes ≡ bundle_spelling version rows b
 
--- by a version that is due
+-- by a version that is due, without places
+abbrev pub WritesPlainBundle : Due → List ℕ → BundleValue → Type 0
+WritesPlainBundle due bytes b = (version : Version) × (takes due version ≡ true) × WritesBundleAs version bytes b
+
+-- by a version that is due: in version 3 places may stand before entries
 abbrev pub WritesBundleBy : Due → List ℕ → BundleValue → Type 0
-WritesBundleBy due bytes b = (version : Version) × (takes due version ≡ true) × WritesBundleAs version bytes b
+WritesBundleBy due bytes b = WritesPlaced bundle_line_text newest_bundle_header (WritesPlainBundle due) bytes b
 
 -- by this version, if it can write the bundle
 abbrev pub WritesWhereWritable : Version → List ℕ → BundleValue → Type 0

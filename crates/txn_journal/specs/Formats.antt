@@ -3,7 +3,7 @@ use Rattle.std.specs.Prelude.{◌≡◌, ◌⊎◌, ℕ, ◌+◌, ◌-◌, ◌^�
 use Rattle.std.specs.List.{flat_map, AllByRecursion}
 use Rattle.gtid_set.specs.declared.fault.SetFault.{SetFault}
 use Rattle.txn_journal.specs.Words.{IsOneLine}
-use Rattle.txn_journal.specs.Stream.{Judge, Progress, Reading, Stopped, feed_bytes, end_of_text, at_end, IsPieceFault, Feeds}
+use Rattle.txn_journal.specs.Stream.{Judge, Progress, Reading, Stopped, feed_bytes, end_of_text, at_end, IsPieceFault, Feeds, NamesSources}
 use Rattle.txn_journal.specs.declared.fault.Cause.{Cause}
 use Rattle.txn_journal.specs.declared.fault.Cause.TheVariants as causes
 use Rattle.txn_journal.specs.declared.fault.JournalFault.{JournalFault}
@@ -28,9 +28,9 @@ pub record Format : Type 1 where
   pub line_text : Line → List ℕ
   -- the bytes are a text of this value
   pub Writes : List ℕ → Value → Type 0
-  -- the same, but that its last entry has not been tested as a whole
+  -- the same, but that its last entry has not been tested as a whole, or has not come after its place
   pub AlmostWrites : List ℕ → Value → Type 0
-  -- an entry is open
+  -- an entry is open, or its place has come
   pub is_open : State → Bool
   -- the line begins an entry, or is within one
   pub is_inside : List ℕ → Bool
@@ -70,6 +70,10 @@ IsFaultBy f p bytes fault = IsPieceFault f.IsFull f.judge p bytes fault
 abbrev pub FeedsBy : (f : Format) → Progress f.State → List ℕ → Progress f.State → Type 0
 FeedsBy f old piece new = Feeds f.IsFull f.judge old piece new
 
+-- the first line of a piece, of which no byte came before, is refused for its sources where they are counted first
+abbrev pub NamesSourcesBy : (f : Format) → (f.State → Type 0) → Progress f.State → List ℕ → Result (Unit {0}) JournalFault → Type 0
+NamesSourcesBy f Counts old piece result = NamesSources Counts f.IsFull f.judge old piece result
+
 -- the end of the text
 unfoldable pub closing_by : (f : Format) → Progress f.State → Result f.Value JournalFault
 closing_by f (Reading s n rest) = at_end (end_of_text (f.is_last s) rest n) (f.value s)
@@ -81,7 +85,7 @@ whole_by f bytes = closing_by f (feed_bytes_by f (start_of f) bytes)
 
 -- ---- texts that are refused
 
--- if an entry is open, it may still become what it has to be as a whole
+-- if an entry is open or its place has come, it may still become what it has to be as a whole
 abbrev pub MayWrite : (f : Format) → Bool → List ℕ → f.Value → Type 0
 MayWrite f true bytes v = f.AlmostWrites bytes v
 MayWrite f false bytes v = f.Writes bytes v

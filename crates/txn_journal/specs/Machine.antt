@@ -12,7 +12,7 @@ use Rattle.rows.specs.declared.schema.Table.{Table}
 use Rattle.rows.specs.Keys.{find_table}
 use Rattle.rows.specs.Fits.{has_primary_null, table_of}
 use Rattle.rows.specs.Limits.{most_changes}
-use Rattle.txn_journal.specs.Versions.{limits_of}
+use Rattle.txn_journal.specs.Versions.{limits_of, has_log_places}
 use Rattle.journal.specs.declared.Entry.{Entry}
 use Rattle.journal.specs.Journals.{JournalValue}
 use Rattle.journal.specs.Writing.{is_number, is_change_writable}
@@ -66,6 +66,11 @@ abbrev pub is_last : LinePlace → Bool
 is_last places.Ended = true
 is_last _ = false
 
+-- between two entries, or before the first or behind the last
+abbrev pub is_between : LinePlace → Bool
+is_between places.Between = true
+is_between _ = false
+
 -- an entry is open
 abbrev pub is_within : LinePlace → Bool
 is_within places.Within = true
@@ -74,6 +79,10 @@ is_within _ = false
 -- between two entries, what was seen has more sources or intervals than a set may have
 abbrev pub IsFull : SetFault → Standing → Type 0
 IsFull f s = (s.place ≡ places.Between) × IsFaultOf f s.seen
+
+-- in version 3 the place of the entry that comes next may stand there
+abbrev pub takes_places : Standing → Bool
+takes_places s = is_between s.place && has_log_places s.version
 
 -- the next line is within an entry
 abbrev pub IsInEntry : Standing → Type 0

@@ -17,6 +17,7 @@ use Rattle.journal.specs.Writing.{is_writable}
 use Rattle.txn_journal.specs.WrittenSets.{set_text, IsWrittenSet}
 use Rattle.row_images.specs.Images.{values_text, AreValues}
 use Rattle.txn_journal.specs.Lines.{Numbers}
+use Rattle.txn_journal.specs.Places.{WritesPlaced}
 use Rattle.txn_journal.specs.Stamps.{no_stamps}
 use Rattle.txn_journal.specs.declared.lines.Version.{Version}
 use Rattle.txn_journal.specs.declared.lines.Version.TheVariants.{One, Two, Three}
@@ -59,6 +60,10 @@ line_text (Begin g numbers) = codes "txn" ++ 32 ∷ (gtid_text g ++ numbers_text
 line_text (Makes change) = change_text change
 line_text End = codes "end"
 line_text Close = codes "close"
+
+-- the first line of a journal that may have places
+abbrev pub newest_header : List ℕ
+newest_header = line_text (Header Three)
 
 abbrev pub ended_line : Line → List ℕ
 ended_line l = line_text l ++ 10 ∷ []
@@ -156,6 +161,10 @@ pub record WritesAs (version : Version) (stamps : List ℕ) (bytes : List ℕ) (
   pub stamps_fit : AreStamps version 1 stamps j.entries
   pub text : bytes ≡ spelling_as version stamps j
 
--- the bytes are a text of this journal, whatever its version and numbers
+-- the bytes are a text of this journal without places, whatever its version and numbers
+abbrev pub WritesPlain : List ℕ → JournalValue → Type 0
+WritesPlain bytes j = (version : Version) × (stamps : List ℕ) × WritesAs version stamps bytes j
+
+-- the bytes are a text of this journal: in version 3 places may stand before its entries
 abbrev pub Writes : List ℕ → JournalValue → Type 0
-Writes bytes j = (version : Version) × (stamps : List ℕ) × WritesAs version stamps bytes j
+Writes bytes j = WritesPlaced line_text newest_header WritesPlain bytes j

@@ -58,6 +58,11 @@ pub data Progress (S : Type 0) : Type 0 where
   Reading : S → ℕ → List ℕ → Progress S
   Stopped : JournalFault → Progress S
 
+-- so many whole lines have come, unless the reading has stopped
+abbrev pub CountsLines : {S : Type 0} → Progress S → ℕ → Type 0
+CountsLines (Reading s n rest) count = count ≡ n
+CountsLines (Stopped fault) count = Unit {0}
+
 abbrev pub unless_stopped : {S : Type 0} → Option JournalFault → Progress S → Progress S
 unless_stopped None p = p
 unless_stopped (Some fault) p = Stopped fault

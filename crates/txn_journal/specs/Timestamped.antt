@@ -4,9 +4,9 @@ use Rattle.rows.specs.declared.limits.Limits.TheVariants.{Narrow}
 use Rattle.rows.specs.declared.schema.Table.{Table}
 use Rattle.journal.specs.Journals.{JournalValue}
 use Rattle.txn_journal.specs.Stream.{Progress}
-use Rattle.txn_journal.specs.Formats.{Format, closing_by, RefusesBy}
+use Rattle.txn_journal.specs.Formats.{Format, start_of, feed_bytes_by, closing_by, RefusesBy}
 use Rattle.txn_journal.specs.Machine.{Standing}
-use Rattle.txn_journal.specs.Reading.{journals_as, alone_start, feed_journal_bytes}
+use Rattle.txn_journal.specs.Reading.{journals_as}
 use Rattle.txn_journal.specs.Spelling.{WritesAs, FitsText, spelling_as}
 use Rattle.txn_journal.specs.Stamps.{right_stamps}
 use Rattle.txn_journal.specs.declared.fault.Cause.TheVariants as causes
@@ -33,7 +33,11 @@ timestamped_journals = journals_as (Only Two) timestamped_of WritesTimestamped
 
 -- before the first byte
 abbrev pub timestamped_start : Progress Standing
-timestamped_start = alone_start (Only Two)
+timestamped_start = start_of timestamped_journals
+
+-- byte by byte
+abbrev pub feed_timestamped : Progress Standing → List ℕ → Progress Standing
+feed_timestamped p bytes = feed_bytes_by timestamped_journals p bytes
 
 -- the end of the text
 abbrev pub closing_timestamped : Progress Standing → Result TimestampedValue JournalFault
@@ -69,4 +73,4 @@ HasText v = WritesTimestamped (timestamped_text v) v
 
 -- that text is read as it, by the fold over its bytes
 abbrev pub IsReadBack : TimestampedValue → Type 0
-IsReadBack v = closing_timestamped (feed_journal_bytes timestamped_start (timestamped_text v)) ≡ Ok v
+IsReadBack v = closing_timestamped (feed_timestamped timestamped_start (timestamped_text v)) ≡ Ok v

@@ -27,7 +27,12 @@ abbrev pub has_references : Version → Bool
 has_references Three = true
 has_references _ = false
 
--- texts with narrow limits have none of them
+-- so are those of the places of entries in a server's log
+abbrev pub has_log_places : Version → Bool
+has_log_places Three = true
+has_log_places _ = false
+
+-- texts with narrow limits have none of these lines
 abbrev pub IsWide : Limits → Type 0
 IsWide Narrow = ⊥
 IsWide Wide = Unit {0}

@@ -16,6 +16,11 @@ spans_word (s ∷ ss) = spans_text (s ∷ ss)
 abbrev pub set_text : Gtids → List ℕ
 set_text s = spans_word (runs s)
 
+-- each span is after the one before it, and has GTIDs that transactions may have, and no others
+pub record AreWrittenSpans (spans : List Span) : Type 0 where
+  pub merged : is_merged spans ≡ true
+  pub usable : AreUsable spans
+
 -- the set has GTIDs that transactions may have, and no others
 pub record IsWrittenSet (s : Gtids) : Type 0 where
   pub merged : is_merged (runs s) ≡ true

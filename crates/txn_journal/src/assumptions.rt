@@ -1,14 +1,18 @@
 //! Assumptions: what a verdict rests on that the bundle doesn't show.
-ghost use Rattle.std.specs.Prelude.{◌≡◌, ◌++◌, option_map, OnOk};
+ghost use Rattle.std.specs.Prelude.{◌≡◌, ◌==◌, ◌++◌, length, option_map, OnOk, IfOk};
+ghost use Rattle.rows.specs.Listing.{rows_listed};
 ghost use Rattle.std.specs.String.{string_bytes};
 ghost use Rattle.txn_journal.specs.Stream.{Finds};
-ghost use Rattle.txn_journal.specs.Assumptions.{named, rank, assumption_text, comes_before, last_of, may_follow, has_channel, may_assume, name_behind, assumption_of, assumption_in};
+ghost use Rattle.txn_journal.specs.Assumptions.{named, rank, assumption_text, comes_before, last_of, may_follow, has_channel, may_assume, name_behind, part_in, assumption_of, assumption_in};
+ghost use Rattle.txn_journal.specs.declared.assumptions.Assumption.TheVariants.{Opening};
 
 use crate::bundle::BundleChannel;
 use crate::fault::{Cause, LineFault};
 use crate::names::Names;
+use crate::spans::{SpanList, spans_in, write_spans_word};
+use gtid_set::GtidSet;
 use row_images::cut;
-use rows::{Limits, Name, Schema};
+use rows::{Limits, Name, Rows};
 use std::alloc::{AllocError, Global};
 
 /// The greatest number of assumptions. Our own limit.
@@ -21,10 +25,15 @@ pub enum Assumption {
     Executed(Name),
     /// The log of this channel has no checksums: damage in it can't be seen.
     Checksums(Name),
+    /// The server of this channel hasn't executed this part of the opening set: whether that part conflicts with its transactions can't be
+    /// seen where the rows aren't known.
+    Opening(Name, SpanList),
     /// Changes of this table, or of all of this database, were left out.
     Ignored(Name),
     /// Foreign keys aren't looked at.
     References,
+    /// The opening rows aren't known: there is none, and changes are not applied.
+    Rows,
 }
 
 impl Assumption {
@@ -35,19 +44,23 @@ impl Assumption {
         match self {
             Assumption::Executed(_) => 0,
             Assumption::Checksums(_) => 1,
+            Assumption::Opening(_, _) => 2,
             Assumption::Ignored(_) => 4,
             Assumption::References => 5,
+            Assumption::Rows => 6,
         }
     }
 
-    /// What follows its word.
+    /// The name that follows its word.
     fn named(&self) -> &[u8]
         ensures { result.now ≡ named self.now }
     {
         match self {
-            Assumption::Executed(name) | Assumption::Checksums(name) | Assumption::Ignored(name) =>
-                name.as_str().as_bytes(),
-            Assumption::References => &[],
+            Assumption::Executed(name)
+            | Assumption::Checksums(name)
+            | Assumption::Opening(name, _)
+            | Assumption::Ignored(name) => name.as_str().as_bytes(),
+            Assumption::References | Assumption::Rows => &[],
         }
     }
 
@@ -66,8 +79,14 @@ impl Assumption {
         match self {
             Assumption::Executed(channel) => write_named(out, "executed ", channel),
             Assumption::Checksums(channel) => write_named(out, "checksums ", channel),
+            Assumption::Opening(channel, spans) => {
+                write_named(out, "opening ", channel)?;
+                out.push_str(" ")?;
+                write_spans_word(out, spans.as_slice())
+            }
             Assumption::Ignored(table) => write_named(out, "ignored ", table),
             Assumption::References => out.push_str("references"),
+            Assumption::Rows => out.push_str("rows"),
         }
     }
 }
@@ -98,16 +117,35 @@ pub fn has_channel(channels: &[BundleChannel], name: &Name) -> bool
     channels.iter().any(|channel| channel.name == *name)
 }
 
-/// Whether the channel that an assumption names is there, or the table that it names is not.
-pub fn may_assume(schema: &Schema, channels: &[BundleChannel], assumption: &Assumption) -> bool
-    ensures { result ≡ may_assume schema.now channels.now assumption.now }
+/// Whether there is no row.
+fn is_without_rows(alloc: Global, rows: &Rows) -> Result<bool, AllocError>
+    ensures { IfOk result (λ none. none ≡ (length (rows_listed rows.now.rows) == 0)) }
+{
+    let list = rows.list_sorted(alloc)?;
+    Ok(list.is_empty())
+}
+
+/// Whether the channel that an assumption names is there, or the table that it names is not; or, of rows that aren't known, whether there
+/// is none.
+pub fn may_assume(
+    alloc: Global,
+    opened: &GtidSet,
+    rows: &Rows,
+    channels: &[BundleChannel],
+    assumption: &Assumption,
+) -> Result<bool, AllocError>
+    ensures { IfOk result (λ may. may ≡ may_assume opened.now rows.now channels.now assumption.now) }
 {
     match assumption {
-        Assumption::Executed(channel) | Assumption::Checksums(channel) => has_channel(
+        Assumption::Executed(channel) | Assumption::Checksums(channel) => Ok(has_channel(
             channels, channel,
+        )),
+        Assumption::Opening(channel, spans) => Ok(
+            has_channel(channels, channel) && spans.are_in(opened),
         ),
-        Assumption::Ignored(table) => schema.find(table).is_none(),
-        Assumption::References => true,
+        Assumption::Ignored(table) => Ok(rows.schema().find(table).is_none()),
+        Assumption::References => Ok(true),
+        Assumption::Rows => is_without_rows(alloc, rows),
     }
 }
 
@@ -129,6 +167,24 @@ fn name_in(
     }
 }
 
+/// What a channel's server hasn't executed of the opening set.
+fn opening_in(
+    alloc: Global,
+    limits: Limits,
+    names: &mut Names,
+    rest: Option<&[u8]>,
+) -> Result<Assumption, LineFault>
+    ensures { Finds (λ a. a) result (part_in limits Opening (option_map (λ r. r.now) rest.entry)) }
+{
+    let Some(text) = rest else {
+        return Err(LineFault::Wrong(Cause::Body));
+    };
+    let (word, more) = cut(text);
+    let channel = name_in(alloc, limits, names, Some(word))?;
+    let spans = spans_in(alloc, more)?;
+    Ok(Assumption::Opening(channel, spans))
+}
+
 /// The assumption of a word and what follows it.
 #[tactic(auto, unfolding(crate::specs::Assumptions::assumption_of))]
 fn assumption_of(
@@ -144,10 +200,14 @@ fn assumption_of(
         Ok(Assumption::Executed(name_in(alloc, limits, names, rest)?))
     } else if word == b"checksums".as_slice() {
         Ok(Assumption::Checksums(name_in(alloc, limits, names, rest)?))
+    } else if word == b"opening".as_slice() {
+        opening_in(alloc, limits, names, rest)
     } else if word == b"ignored".as_slice() {
         Ok(Assumption::Ignored(name_in(alloc, limits, names, rest)?))
     } else if word == b"references".as_slice() && rest.is_none() {
         Ok(Assumption::References)
+    } else if word == b"rows".as_slice() && rest.is_none() {
+        Ok(Assumption::Rows)
     } else {
         Err(LineFault::Wrong(Cause::Body))
     }

@@ -1,6 +1,7 @@
 //! Bundles: a replica's tables and opening rows, and the journals that its channels bring.
 ghost use Rattle.std.specs.Prelude.{◌≡◌};
 ghost use Rattle.txn_journal.specs.BundleText.{IsBundle};
+ghost use Rattle.txn_journal.specs.Assumptions.{lacks_rows};
 
 use crate::assumptions::Assumption;
 use crate::open_bundle::OpenBundle;
@@ -113,6 +114,15 @@ impl Bundle {
         ensures { result.now ≡ self.now.assumptions }
     {
         self.parts.assumptions()
+    }
+
+    /// Whether the opening rows aren't known: there is none, and changes are not applied.
+    pub fn lacks_rows(&self) -> bool
+        ensures { result ≡ lacks_rows self.now.assumptions }
+    {
+        self.assumptions()
+            .iter()
+            .any(|it| matches!(it, Assumption::Rows))
     }
 
     /// The type keeps the rules of the format: tables, rows and channels fit together, the tables take what each journal has, and all of

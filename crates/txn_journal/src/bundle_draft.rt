@@ -228,7 +228,7 @@ impl BundleDraft {
     ghost use Rattle.txn_journal.specs.declared.lines.Due.TheVariants.{Any};
     ghost use Rattle.txn_journal.specs.Versions.{is_numbered};
     ghost use Rattle.txn_journal.specs.Stream.{TakesLine, GivesFull, IsRefusedWhereFull, TakesPlain, IsLeftWhereFull};
-    ghost use Rattle.txn_journal.specs.BundleStates.{IsFullBundle, CountsFirst, no_bundle, is_done, version_line, replica_line, opening_line, add_table_line, reference_line, put_reference, assume_line, put_assumption, row_line, put_within, put_row, after_tables, channel_line, join_channel, done_line, own_step, judge_own, after_inner, end_entry, close_channel, judge_inner, judge_bundle};
+    ghost use Rattle.txn_journal.specs.BundleStates.{IsFullBundle, CountsFirst, no_bundle, is_done, bundle_takes_places, version_line, replica_line, opening_line, add_table_line, reference_line, put_reference, assume_line, put_assumption, row_line, put_within, put_row, after_tables, channel_line, join_channel, done_line, own_step, judge_own, after_inner, end_entry, close_channel, judge_inner, judge_bundle};
     ghost use Rattle.txn_journal.specs.BundleDrafts.{bundle_standing};
     ghost use Rattle.txn_journal.specs.ChangeLines.{change_in};
     ghost use Rattle.txn_journal.specs.BundleChanges.{with_change};
@@ -270,6 +270,13 @@ impl BundleDraft {
         ensures { result ≡ is_done (bundle_standing self.now).part }
     {
         self.part == Part::Ended
+    }
+
+    /// Whether the place of the entry that comes next may stand here.
+    pub fn takes_places(&self) -> bool
+        ensures { result ≡ bundle_takes_places (bundle_standing self.now) }
+    {
+        self.part == Part::Journal && self.draft.is_between() && self.version.has_places()
     }
 
     /// What the lines have made.
@@ -462,17 +469,23 @@ impl BundleDraft {
         if !may_follow(self.bundle.assumptions(), &assumption) {
             return Err(LineFault::Wrong(Cause::Body));
         }
-        self.add_assumption(assumption)
+        self.add_assumption(alloc, assumption)
     }
 
     #[tactic(auto, unfolding(crate::specs::BundleStates::put_assumption))]
-    fn add_assumption(&mut self, assumption: Assumption) -> Result<(), LineFault>
+    fn add_assumption(&mut self, alloc: Global, assumption: Assumption) -> Result<(), LineFault>
         ensures { TakesLine IsFullBundle result (put_assumption (bundle_standing self.old) assumption) (bundle_standing self.new) }
     {
         if self.bundle.assumptions().len() >= MAX_ASSUMPTIONS {
             return Err(LineFault::Wrong(Cause::Limit));
         }
-        if !may_assume(self.bundle.schema(), self.bundle.channels(), &assumption) {
+        if !may_assume(
+            alloc,
+            self.bundle.opening_set(),
+            self.bundle.rows(),
+            self.bundle.channels(),
+            &assumption,
+        )? {
             return Err(LineFault::Wrong(Cause::Schema));
         }
         self.writers = None;

@@ -1,6 +1,6 @@
 //! The reader of bundles.
 ghost use Rattle.std.specs.Prelude.{◌≡◌, None, Some, IfOk, IfErr};
-ghost use Rattle.txn_journal.specs.BundleStates.{BundleStanding, BundleValue};
+ghost use Rattle.txn_journal.specs.BundleStates.{BundleValue};
 ghost use Rattle.txn_journal.specs.BundleText.{WritesBundleBy, WritesBundle};
 ghost use Rattle.txn_journal.specs.Stream.{IsWhole, IsWholeOr, IsRead};
 ghost use Rattle.txn_journal.specs.BundleRefused.{RefusesBundleBy, RefusesBundle};
@@ -13,6 +13,7 @@ use crate::fault::{JournalFault, LineFault};
 use crate::feed::{Feed, TakeChange, TakeLine};
 use crate::lines::Due;
 use crate::parsed_lines::{ParsedEntry, ParsedLines};
+use crate::placed::{Placed, TakePlaces};
 use rows::Change;
 use std::alloc::{AllocError, Global};
 use std::marker::Model;
@@ -122,18 +123,30 @@ impl TakeChange for Lines {
     }
 }
 
+impl TakePlaces for Lines {
+    ghost use Rattle.txn_journal.specs.BundleStates.{bundle_takes_places};
+    ghost use Rattle.txn_journal.specs.PlaceWords.{unknown_in_bundle};
+
+    ghost takes = { bundle_takes_places };
+
+    ghost unknown = { unknown_in_bundle };
+
+    fn takes_places(&self) -> bool {
+        self.draft.takes_places()
+    }
+}
+
 /// Reads a bundle that comes in pieces, cut anywhere.
 #[derive(Drop)]
 pub struct BundleReader {
-    feed: Feed<Lines>,
+    feed: Feed<Placed<Lines>>,
 }
 
 impl BundleReader {
     ghost use Rattle.std.specs.Prelude.{IfSome, IfNone, IsOk, Err};
-    ghost use Rattle.txn_journal.specs.Stream.{answer, StaysStopped, NamesSources};
-    ghost use Rattle.txn_journal.specs.BundleStates.{judge_bundle, IsFullBundle, CountsFirst};
-    ghost use Rattle.txn_journal.specs.Formats.{FeedsBy};
-    ghost use Rattle.txn_journal.specs.BundleReading.{bundles, bundle_start, closing_bundle};
+    ghost use Rattle.txn_journal.specs.Stream.{CountsLines, answer, StaysStopped};
+    ghost use Rattle.txn_journal.specs.Formats.{FeedsBy, NamesSourcesBy};
+    ghost use Rattle.txn_journal.specs.BundleReading.{bundles, bundle_start, closing_bundle, CountsFirstHere};
     ghost use Rattle.txn_journal.specs.BundleReaders.{bundle_reading};
 
     /// Before the first byte of a bundle of any version.
@@ -148,7 +161,7 @@ impl BundleReader {
         ensures { bundle_reading result ≡ bundle_start due }
     {
         BundleReader {
-            feed: Feed::start(alloc, Lines::start(alloc, due)),
+            feed: Feed::start(alloc, Placed::start(Lines::start(alloc, due))),
         }
     }
 
@@ -158,7 +171,7 @@ impl BundleReader {
         ensures stays { StaysStopped (bundle_reading self.old) (bundle_reading self.new) }
         ensures answer { result ≡ answer (bundle_reading self.new) }
         // In version 1 a line that ends an entry and is the first of its piece is refused for too many sources, whatever memory there is.
-        ensures room { NamesSources CountsFirst IsFullBundle judge_bundle (bundle_reading self.old) piece.now result }
+        ensures room { NamesSourcesBy (bundles Any) CountsFirstHere (bundle_reading self.old) piece.now result }
     {
         self.feed.feed(alloc, piece)
     }
@@ -172,13 +185,20 @@ impl BundleReader {
         self.feed.feed_parsed(alloc, piece)
     }
 
+    /// How many whole lines have come.
+    pub fn lines(&self) -> u64
+        ensures { CountsLines (bundle_reading self.now) result }
+    {
+        self.feed.lines()
+    }
+
     /// What is wrong with the text as a whole, if anything is: the fault that `finish` returns.
     #[tactic(auto, unfolding(crate::specs::Formats::closing_by))]
     pub fn fault(&self) -> Option<JournalFault>
         ensures some { IfSome result (λ fault. closing_bundle (bundle_reading self.now) ≡ Err fault) }
         ensures none { IfNone result (IsOk (closing_bundle (bundle_reading self.now))) }
     {
-        let is_ended = self.feed.made.is_ended();
+        let is_ended = self.feed.made.made.is_ended();
         match self.feed.end(is_ended) {
             Ok(()) => None,
             Err(fault) => Some(fault),
@@ -190,8 +210,8 @@ impl BundleReader {
     pub fn finish(self) -> Result<Bundle, JournalFault>
         ensures { result ≡ closing_bundle (bundle_reading self) }
     {
-        match self.feed.end(self.feed.made.is_ended()) {
-            Ok(()) => Ok(self.feed.made.into_bundle()),
+        match self.feed.end(self.feed.made.made.is_ended()) {
+            Ok(()) => Ok(self.feed.made.made.into_bundle()),
             Err(fault) => Err(fault),
         }
     }

@@ -329,6 +329,7 @@ fn write_bundle(
 
 /// The text of a bundle by a version of the format: its lines, each ended by one line feed. Rows come by table name, and then by the
 /// values of their primary key; each entry has its last_committed and its sequence number, but in version 1.
+#[tactic(auto, using(crate::proofs::BundlePlaces::spelled_writes))]
 pub fn bundle_text(alloc: Global, version: Version, bundle: &Bundle) -> Result<String, AllocError>
     ensures spelled { IfOk result (λ text. string_bytes text ≡ spelling_by version bundle.now) }
     // It is a text by the grammar, and read back as this bundle, if that version can write it.

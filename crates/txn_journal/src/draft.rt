@@ -160,7 +160,7 @@ impl Draft {
     ghost use Rattle.gtid_set.specs.Full.{HasManySources};
     ghost use Rattle.gtid_set.specs.declared.fault.SetFault.TheVariants.{SourcesFull};
     ghost use Rattle.txn_journal.specs.Stream.{TakesLine, IsRefusedWhereFull, TakesPlain};
-    ghost use Rattle.txn_journal.specs.Machine.{Standing, IsFull, TakesIn, judge, empty, is_last, is_within, open_entry, join_entry, close_entry, drop_entries, add, header_line, previous_line, txn_line, end_line, close_line, step};
+    ghost use Rattle.txn_journal.specs.Machine.{Standing, IsFull, TakesIn, judge, empty, is_last, is_between, takes_places, is_within, open_entry, join_entry, close_entry, drop_entries, add, header_line, previous_line, txn_line, end_line, close_line, step};
     ghost use Rattle.txn_journal.specs.Drafts.{standing};
     ghost use Rattle.txn_journal.specs.TakenEntries.{MayFollow, JoinsEntry};
     ghost use Rattle.txn_journal.specs.Timestamped.{timestamped_of};
@@ -192,6 +192,20 @@ impl Draft {
         ensures { result ≡ is_last (standing self.now).place }
     {
         self.place == LinePlace::Ended
+    }
+
+    /// Whether the next line is between entries.
+    pub fn is_between(&self) -> bool
+        ensures { result ≡ is_between (standing self.now).place }
+    {
+        self.place.is_between()
+    }
+
+    /// Whether the place of the entry that comes next may stand here.
+    pub fn takes_places(&self) -> bool
+        ensures { result ≡ takes_places (standing self.now) }
+    {
+        self.place.is_between() && self.version.has_places()
     }
 
     /// The entries that were not taken yet.

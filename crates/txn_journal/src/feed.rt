@@ -75,7 +75,7 @@ pub struct Feed<T> {
 
 impl<T> Feed<T> {
     ghost use Rattle.std.specs.Prelude.{[], true};
-    ghost use Rattle.txn_journal.specs.Stream.{Reading, answer, end_of};
+    ghost use Rattle.txn_journal.specs.Stream.{Reading, CountsLines, answer, end_of};
     ghost use Rattle.txn_journal.specs.Feeds.{progress};
 
     /// Before the first byte.
@@ -98,6 +98,13 @@ impl<T> Feed<T> {
             None => Ok(()),
             Some(fault) => Err(fault),
         }
+    }
+
+    /// How many whole lines have come.
+    pub fn lines(&self) -> u64
+        ensures { CountsLines (progress self.now) result }
+    {
+        self.lines
     }
 
     /// Whether no byte of the next line has come.

@@ -3,13 +3,11 @@ ghost use Rattle.std.specs.Prelude.{◌≡◌, ℕ, List, None, Some};
 ghost use Rattle.rows.specs.declared.limits.Limits.TheVariants.{Narrow};
 ghost use Rattle.rows.specs.declared.schema.Table.{Table};
 ghost use Rattle.journal.specs.Journals.{JournalValue};
-ghost use Rattle.txn_journal.specs.Machine.{Standing};
-ghost use Rattle.txn_journal.specs.Stream.{Progress};
-ghost use Rattle.txn_journal.specs.Reading.{Stamped, stamped_of, without_entries, behind_entries, closing, WrittenJournal, IsWrittenAs, HasBegun, FeedsBehind, EndsBehind};
+ghost use Rattle.txn_journal.specs.Reading.{Stamped, stamped_of, without_entries, behind_entries, closing, WrittenJournal, IsTextOf, JournalProgress, HasBegun, FeedsBehind, EndsBehind};
 ghost use Rattle.txn_journal.specs.Spelling.{IsWritten, WritesAs, Writes};
 ghost use Rattle.txn_journal.specs.Timestamped.{with_timestamps, HasText, IsReadBack};
 ghost use Rattle.txn_journal.specs.declared.lines.Version.{Version};
-ghost use Rattle.txn_journal.specs.declared.lines.Due.TheVariants.{Any, Only};
+ghost use Rattle.txn_journal.specs.declared.lines.Due.TheVariants.{Only};
 ghost use Rattle.txn_journal.specs.declared.lines.Version.TheVariants.{One, Two};
 ghost use Rattle.txn_journal.specs.Widened.{WidensByThree, IsReadWidened};
 ghost use Rattle.txn_journal.specs.BundleStates.{BundleValue};
@@ -23,13 +21,13 @@ pub fn one_spelling()
     ensures one { (j : JournalValue) (ks ls a b : List ℕ) → WritesAs One ks a j → WritesAs One ls b j → a ≡ b }
     ensures each { (v : Version) (j : JournalValue) (ls a b : List ℕ) → WritesAs v ls a j → WritesAs v ls b j → a ≡ b }
     ensures journal { (bytes : List ℕ) (i j : JournalValue) → Writes bytes i → Writes bytes j → i ≡ j }
-    ensures whole { (bytes : List ℕ) (v w : WrittenJournal) → IsWrittenAs Any bytes v → IsWrittenAs Any bytes w → v ≡ w }
+    ensures whole { (bytes : List ℕ) (v w : WrittenJournal) → IsTextOf bytes v → IsTextOf bytes w → v ≡ w }
 {}
 
 /// Entries that were taken are those that would have come first.
 pub fn taken_in_front()
-    ensures taken { (p : Progress Standing) → behind_entries (stamped_of p) (without_entries p) ≡ p }
-    ensures feed_bytes { (front : Stamped) (p : Progress Standing) (bytes : List ℕ) → HasBegun p → FeedsBehind front p bytes }
+    ensures taken { (p : JournalProgress) → behind_entries (stamped_of p) (without_entries p) ≡ p }
+    ensures feed_bytes { (front : Stamped) (p : JournalProgress) (bytes : List ℕ) → HasBegun p → FeedsBehind front p bytes }
     ensures closing { EndsBehind }
 {}
 

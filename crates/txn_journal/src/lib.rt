@@ -19,7 +19,8 @@
 //! journals (`IsWritten`).
 //!
 //! One theory serves journals and bundles: a record `Format` has the content of lines, the judge of lines and the last line, and both
-//! formats are values of it (`specs/Formats`). A version is a value in the state of a reader, and no other theory.
+//! formats are values of it (`specs/Formats`). A version is a value in the state of a reader, and no other theory. `placed` makes of a
+//! format the one whose texts of version 3 may have the places of entries in a server's log: lines that no value has (`specs/Places`).
 //!
 //! Not proved: speed. Measured on 2026-11-27, a bundle of transactions of one row takes 2,200 instructions an entry (173 bytes). By the
 //! code a reader is linear in its text: a line is copied only if it comes in more than one piece.
@@ -37,12 +38,15 @@ mod fitting;
 mod images;
 mod laws;
 mod lines;
+mod log_places;
 mod names;
 mod numbers;
 mod open_bundle;
 mod parsed_lines;
+mod placed;
 mod reader;
 mod references;
+mod spans;
 mod tables;
 mod timestamped_journal;
 mod writer;
@@ -63,5 +67,6 @@ pub use logical_timestamps::last_committed_of as stamps;
 pub use parsed_lines::ParsedLines;
 pub use reader::{Reader, any_cut, decode, decode_v2};
 pub use references::Reference;
+pub use spans::{SpanList, has_spans, write_spans_word};
 pub use timestamped_journal::TimestampedJournal;
 pub use writer::{encode, encode_v2};

@@ -1,7 +1,7 @@
 //! The lines of a journal: which word is due where.
 ghost use Rattle.std.specs.Prelude.{◌≡◌};
 ghost use Rattle.txn_journal.specs.Lines.{keyword_of};
-ghost use Rattle.txn_journal.specs.Versions.{limits_of};
+ghost use Rattle.txn_journal.specs.Versions.{limits_of, has_log_places};
 
 use rows::Limits;
 
@@ -22,6 +22,13 @@ impl Version {
             Version::One | Version::Two => Limits::Narrow,
             Version::Three => Limits::Wide,
         }
+    }
+
+    /// Whether its texts may have places of entries.
+    pub fn has_places(self) -> bool
+        ensures { result ≡ has_log_places self }
+    {
+        self == Version::Three
     }
 }
 
@@ -103,6 +110,14 @@ pub fn keyword_at(word: &[u8]) -> Option<Keyword>
 
 impl LinePlace {
     ghost use Rattle.txn_journal.specs.Due.{is_due};
+    ghost use Rattle.txn_journal.specs.Machine.{is_between};
+
+    /// Whether it is between two entries, or before the first or behind the last.
+    pub fn is_between(self) -> bool
+        ensures { result ≡ is_between self }
+    {
+        self == LinePlace::Between
+    }
 
     /// Whether a line of this keyword is allowed here.
     pub fn takes(self, keyword: Keyword) -> bool

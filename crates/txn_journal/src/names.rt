@@ -38,7 +38,8 @@ fn named(limits: Limits, text: String) -> Result<Name, NameFault>
     }
 }
 
-fn new_name(alloc: Global, limits: Limits, word: &[u8]) -> Result<Option<Name>, AllocError>
+/// The name that a word is, by these limits.
+pub fn new_name(alloc: Global, limits: Limits, word: &[u8]) -> Result<Option<Name>, AllocError>
     ensures { IfOk result (λ found. found ≡ name_of limits word.now) }
 {
     let Ok(text) = std::str::from_utf8(word) else {

@@ -6,13 +6,14 @@ ghost use Rattle.txn_journal.specs.Refused.{Refuses};
 ghost use Rattle.txn_journal.specs.Stream.{IsWhole, IsRead};
 ghost use Rattle.txn_journal.specs.Machine.{Standing};
 ghost use Rattle.txn_journal.specs.Reading.{before_first, feed_journal_bytes, closing, AnyCut};
-ghost use Rattle.txn_journal.specs.Timestamped.{TimestampedValue, WritesTimestamped, RefusesTimestamped, BeginsAsVersionOne, first_line_version, timestamped_start, closing_timestamped};
+ghost use Rattle.txn_journal.specs.Timestamped.{TimestampedValue, WritesTimestamped, RefusesTimestamped, BeginsAsVersionOne, first_line_version, timestamped_start, feed_timestamped, closing_timestamped};
 
 use crate::draft::Draft;
 use crate::fault::{JournalFault, LineFault};
 use crate::feed::{Feed, TakeLine};
 use crate::lines::{Due, Version};
 use crate::names::Names;
+use crate::placed::{Placed, TakePlaces};
 use crate::timestamped_journal::TimestampedJournal;
 use journal::{Entry, Journal};
 use std::alloc::{AllocError, Global};
@@ -40,8 +41,18 @@ impl Model for Alone {
 }
 
 impl Alone {
-    ghost use Rattle.txn_journal.specs.Machine.{is_last, drop_entries};
+    ghost use Rattle.txn_journal.specs.Machine.{empty, is_last, drop_entries};
     ghost use Rattle.txn_journal.specs.Timestamped.{timestamped_of};
+
+    /// Before the first line.
+    fn start(alloc: Global, due: Due) -> Alone
+        ensures { result ≡ empty due }
+    {
+        Alone {
+            draft: Draft::start(alloc, due),
+            names: Names::start(alloc),
+        }
+    }
 
     fn is_ended(&self) -> bool
         ensures { result ≡ is_last self.now.place }
@@ -89,38 +100,39 @@ impl TakeLine for Alone {
     }
 }
 
+impl TakePlaces for Alone {
+    ghost use Rattle.std.specs.Prelude.{None};
+    ghost use Rattle.txn_journal.specs.Machine.{takes_places};
+    ghost use Rattle.txn_journal.specs.PlaceWords.{unknown_place};
+
+    ghost takes = { takes_places };
+
+    ghost unknown = { unknown_place None };
+
+    fn takes_places(&self) -> bool {
+        self.draft.takes_places()
+    }
+}
+
 /// Reads a journal that comes in pieces, cut anywhere.
 #[derive(Drop)]
 pub struct Reader {
-    feed: Feed<Alone>,
+    feed: Feed<Placed<Alone>>,
 }
 
 impl Reader {
-    ghost use Rattle.std.specs.Prelude.{None, Ok, Err, IfOk, IfErr, OnOk};
-    ghost use Rattle.txn_journal.specs.Machine.{judge, IsFull};
-    ghost use Rattle.txn_journal.specs.Stream.{answer, IsAfter, StaysStopped, NamesSources};
-    ghost use Rattle.txn_journal.specs.Formats.{FeedsBy};
-    ghost use Rattle.txn_journal.specs.Reading.{journals, alone_start, before_first, entries_of, without_entries, feed_journal_bytes, IsFaultAlone, closing};
-    ghost use Rattle.txn_journal.specs.Timestamped.{closing_timestamped};
+    ghost use Rattle.std.specs.Prelude.{Ok, Err, IfOk, IfErr, OnOk};
+    ghost use Rattle.txn_journal.specs.Stream.{answer, IsAfter, StaysStopped};
+    ghost use Rattle.txn_journal.specs.Formats.{FeedsBy, NamesSourcesBy};
+    ghost use Rattle.txn_journal.specs.Reading.{journals, before_first, entries_of, without_entries, feed_journal_bytes, IsFaultAlone, closing};
     ghost use Rattle.txn_journal.specs.Readers.{reading};
 
     /// Before the first byte of a journal of any version.
     pub fn start(alloc: Global) -> Reader
         ensures { reading result ≡ before_first }
     {
-        Reader::start_as(alloc, Due::Any)
-    }
-
-    /// Before the first byte of a journal of the version that is due.
-    fn start_as(alloc: Global, due: Due) -> Reader
-        ensures { reading result ≡ alone_start due }
-    {
-        let made = Alone {
-            draft: Draft::start(alloc, due),
-            names: Names::start(alloc),
-        };
         Reader {
-            feed: Feed::start(alloc, made),
+            feed: Feed::start(alloc, Placed::start(Alone::start(alloc, Due::Any))),
         }
     }
 
@@ -130,7 +142,7 @@ impl Reader {
         ensures stays { StaysStopped (reading self.old) (reading self.new) }
         ensures answer { result ≡ answer (reading self.new) }
         // A line that ends an entry and is the first of its piece is refused for too many sources, whatever memory there is.
-        ensures room { NamesSources (λ _. Unit {0}) IsFull (judge None) (reading self.old) piece.now result }
+        ensures room { NamesSourcesBy journals (λ _. Unit {0}) (reading self.old) piece.now result }
     {
         self.feed.feed(alloc, piece)
     }
@@ -142,7 +154,7 @@ impl Reader {
         ensures err { IfErr result (λ e. (Err e ≡ answer (reading self.old)) × (reading self.new ≡ reading self.old)) }
     {
         match self.feed.answer() {
-            Ok(()) => Ok(self.feed.made.take_entries(alloc)),
+            Ok(()) => Ok(self.feed.made.made.take_entries(alloc)),
             Err(fault) => Err(fault),
         }
     }
@@ -152,30 +164,52 @@ impl Reader {
     pub fn finish(self) -> Result<Journal, JournalFault>
         ensures { result ≡ closing (reading self) }
     {
-        match self.feed.end(self.feed.made.is_ended()) {
-            Ok(()) => Ok(self.feed.made.into_journal()),
-            Err(fault) => Err(fault),
-        }
-    }
-
-    /// The journal, if its last line has come, and the last_committed of each entry.
-    #[tactic(auto, unfolding(crate::specs::Formats::closing_by))]
-    fn finish_timestamped(self) -> Result<TimestampedJournal, JournalFault>
-        ensures { result ≡ closing_timestamped (reading self) }
-    {
-        match self.feed.end(self.feed.made.is_ended()) {
-            Ok(()) => Ok(self.feed.made.into_timestamped()),
+        match self.feed.end(self.feed.made.made.is_ended()) {
+            Ok(()) => Ok(self.feed.made.made.into_journal()),
             Err(fault) => Err(fault),
         }
     }
 
     /// The reader of all of these bytes. It keeps a fault, which its end returns.
-    fn over(alloc: Global, due: Due, bytes: &[u8]) -> Reader
-        ensures { IsAfter (IsFaultAlone (alone_start due) bytes.now) (reading result) (feed_journal_bytes (alone_start due) bytes.now) }
+    fn over(alloc: Global, bytes: &[u8]) -> Reader
+        ensures { IsAfter (IsFaultAlone before_first bytes.now) (reading result) (feed_journal_bytes before_first bytes.now) }
     {
-        let mut reader = Reader::start_as(alloc, due);
+        let mut reader = Reader::start(alloc);
         let _ = reader.feed(alloc, bytes);
         reader
+    }
+}
+
+/// Reads a journal of version 2, which has no places.
+#[derive(Drop)]
+struct TimestampedReader {
+    feed: Feed<Alone>,
+}
+
+impl TimestampedReader {
+    ghost use Rattle.txn_journal.specs.Stream.{IsAfter};
+    ghost use Rattle.txn_journal.specs.Formats.{IsFaultBy};
+    ghost use Rattle.txn_journal.specs.Feeds.{progress};
+    ghost use Rattle.txn_journal.specs.Timestamped.{timestamped_journals, timestamped_start, feed_timestamped, closing_timestamped};
+
+    /// The reader of all of these bytes. It keeps a fault, which its end returns.
+    fn over(alloc: Global, bytes: &[u8]) -> TimestampedReader
+        ensures { IsAfter (IsFaultBy timestamped_journals timestamped_start bytes.now) (progress result.feed) (feed_timestamped timestamped_start bytes.now) }
+    {
+        let mut feed = Feed::start(alloc, Alone::start(alloc, Due::Only(Version::Two)));
+        let _ = feed.feed(alloc, bytes);
+        TimestampedReader { feed }
+    }
+
+    /// The journal, if its last line has come, and the last_committed of each entry.
+    #[tactic(auto, unfolding(crate::specs::Formats::closing_by))]
+    fn finish(self) -> Result<TimestampedJournal, JournalFault>
+        ensures { result ≡ closing_timestamped (progress self.feed) }
+    {
+        match self.feed.end(self.feed.made.is_ended()) {
+            Ok(()) => Ok(self.feed.made.into_timestamped()),
+            Err(fault) => Err(fault),
+        }
     }
 }
 
@@ -190,7 +224,7 @@ pub fn decode(alloc: Global, bytes: &[u8]) -> Result<Journal, JournalFault>
     // The same, by the fold over the bytes.
     ensures exact { IsWhole result (closing (feed_journal_bytes before_first bytes.now)) }
 {
-    Reader::over(alloc, Due::Any, bytes).finish()
+    Reader::over(alloc, bytes).finish()
 }
 
 /// The journal that the bytes parse as by version 2 of the format, all of the bytes, with the last_committed of each entry as it
@@ -204,11 +238,11 @@ pub fn decode_v2(alloc: Global, bytes: &[u8]) -> Result<TimestampedJournal, Jour
     // A refusal names the first faulty line, and what is wrong with it.
     ensures refused { IfErr result (λ fault. RefusesTimestamped fault bytes.now) }
     // The same, by the fold over the bytes.
-    ensures exact { IsWhole result (closing_timestamped (feed_journal_bytes timestamped_start bytes.now)) }
+    ensures exact { IsWhole result (closing_timestamped (feed_timestamped timestamped_start bytes.now)) }
     // A text of version 1 is refused at its first line.
     ensures version { BeginsAsVersionOne bytes.now → IsWhole result (Err first_line_version) }
 {
-    Reader::over(alloc, Due::Only(Version::Two), bytes).finish_timestamped()
+    TimestampedReader::over(alloc, bytes).finish()
 }
 
 /// A text is read the same, however it is cut into pieces.

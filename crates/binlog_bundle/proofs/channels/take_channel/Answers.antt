@@ -1,8 +1,7 @@
 use Rattle.std.proofs.Common.{ℕ, List, ◌++◌, ◌∙◌, ap, sym, subst, refl}
 use Rattle.txn_journal.specs.BundleReaders.{bundle_reading}
 use Rattle.binlog_bundle.specs.Lines.{with_line_feed}
-use Rattle.txn_journal.specs.BundleStates.{BundleStanding}
-use Rattle.txn_journal.specs.Stream.{Progress}
+use Rattle.txn_journal.specs.BundleReading.{BundleProgress}
 use Rattle.binlog_bundle.specs.Notes.{notes_for}
 use Rattle.binlog_bundle.specs.Channels.{Stops, FeedsLog}
 use Rattle.binlog_bundle.proofs.Feeding.{is_taken}
@@ -37,7 +36,7 @@ returns-in-Ok-keep_channel-clause-fed c =
       says = had_executed c.args.grants c.args.line.now own _ executed c.cut_executed.ensures c.in-Ok-executed_of.ensures.found;
       middle = bundle_reading c.add_line.new.reader;
       fed = c.in-Ok.ensures.fed;
-      brings = subst (λ (p : Progress BundleStanding). FeedsLog c.args.grants c.args.start.now c.args.log.now (bundle_reading c.add_line.new.reader) p c.in-Ok-take_log.varied.items) (sym c.keep_channel.ensures.reader) c.in-Ok-take_log.ensures.fed;
+      brings = subst (λ (p : BundleProgress). FeedsLog c.args.grants c.args.start.now c.args.log.now (bundle_reading c.add_line.new.reader) p c.in-Ok-take_log.varied.items) (sym c.keep_channel.ensures.reader) c.in-Ok-take_log.ensures.fed;
       said = c.in-Ok-keep_channel.ensures.said;
       note = notes_for c.args.start.now own c.in-Ok-take_log.varied.items executed;
       note_is = refl;

@@ -1,13 +1,18 @@
-use Rattle.std.proofs.Common.{◌++◌, ◌-◌, List, ℕ, length, take, drop, sym, ap, ◌∙◌}
-use Rattle.std.specs.Prelude.{codes, flat_map, string_bytes}
-use Rattle.gtid_report.specs.Assumed.{next_condition}
-use Rattle.gtid_report.proofs.AssumedLemmas.{conditions_cut}
+use Rattle.std.proofs.Common.{ℕ, List, ◌++◌, ap, ◌∙◌}
+use Rattle.std.specs.Prelude.{string_bytes}
+use Rattle.gtid_report.specs.Assumed.{with_references}
+use Rattle.gtid_report.specs.Joined.{joined, implied}
+use Rattle.gtid_report.proofs.AssumedLemmas.{conditions_put}
 use Rattle.gtid_report.proofs.assumed.push_conditions.Goals as goal
 
-pub returns-in_ok-push_str : goal.returns-in_ok-push_str
-returns-in_ok-push_str c =
-    let said = c.assumptions.result.now in
-    let others = flat_map next_condition (take (length said - 1) (drop 1 said)) in
-    c.in_ok-push_str.ensures.bytes
-    ∙ ap (λ (t : List ℕ). t ++ codes ", references") (c.in_ok-push_others.ensures ∙ ap (λ (t : List ℕ). t ++ others) c.in_ok-write.ensures)
-    ∙ conditions_cut (string_bytes c.args.out.now) c.args.bundle.now said c.first-item.result c.assumptions.ensures c.in-len1-up.len_at_least c.first-item.is (sym c.is_implied-is_implied.ensures ∙ c.if-is_implied-2.true)
+pub returns : goal.returns
+returns c =
+    let before = c.cut_at_rows.result.0.now in
+    let after = c.cut_at_rows.result.1.now in
+    let implies = c.is_implied-is_implied.result in
+    let first = c.is_empty-is_first.result in
+    let still = c.is_still_first.result in
+    c.in_ok-push_joined-2.ensures
+    ∙ ap (λ (t : List ℕ). t ++ joined still after) (c.in_ok-join_implied.ensures ∙ ap (λ (t : List ℕ). t ++ joined first (implied implies)) c.in_ok-push_joined.ensures)
+    ∙ conditions_put (string_bytes c.args.out.now) c.args.bundle.now implies first still before after c.is_implied-is_implied.ensures c.is_empty-is_first.ensures c.is_still_first.ensures
+    (c.cut_at_rows.ensures.whole ∙ c.assumptions.ensures) (c.cut_at_rows.ensures.place ∙ ap with_references c.assumptions.ensures)

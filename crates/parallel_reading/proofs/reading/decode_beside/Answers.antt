@@ -6,7 +6,7 @@ use Rattle.txn_journal.specs.BundleReading.{bundles, bundle_start, feed_bundle_b
 use Rattle.txn_journal.specs.BundleReaders.{bundle_reading}
 use Rattle.txn_journal.specs.declared.fault.JournalFault.{JournalFault}
 use Rattle.txn_journal.proofs.FormatLaws.{closed_after, is_found, is_only, is_refused, whole_of}
-use Rattle.txn_journal.proofs.BundleLaws.{IsSoundBundle, bundle_laws}
+use Rattle.txn_journal.proofs.BundlePlaces.{IsSoundBundle, bundle_laws}
 use Rattle.txn_journal.specs.declared.lines.Due.TheVariants.{Any}
 use Rattle.parallel_reading.proofs.reading.decode_beside.Goals as goal
 

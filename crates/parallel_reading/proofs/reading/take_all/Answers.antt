@@ -3,8 +3,7 @@ use Rattle.std.specs.List.{concat}
 use Rattle.std.proofs.lemmas.List.{map-id}
 use Rattle.std.proofs.lemmas.Iterator.Consumers.{YieldsList-end}
 use Rattle.std.proofs.lemmas.Iterator.Adapters.{YieldsList-from_vec}
-use Rattle.txn_journal.specs.BundleStates.{IsFullBundle, judge_bundle}
-use Rattle.txn_journal.specs.BundleReading.{bundle_start}
+use Rattle.txn_journal.specs.BundleReading.{bundles, bundle_start}
 use Rattle.txn_journal.specs.BundleReaders.{bundle_reading}
 use Rattle.txn_journal.specs.declared.lines.Due.TheVariants.{Any}
 use Rattle.parallel_reading.specs.Coming.{HasCome}
@@ -18,7 +17,7 @@ loop-part-preserved c bytes come =
     let part = c.in-Some.part in
     subst (λ (t : List ℕ). HasCome c.feed_parsed.new.self t)
     (append_assoc bytes (concat yielded) part ∙ ap (λ (t : List ℕ). bytes ++ t) (sym (concat_push yielded part)))
-    (come_more IsFullBundle judge_bundle (bundle_start Any) (bytes ++ concat yielded) part (bundle_reading c.loop-part.reader) (bundle_reading c.feed_parsed.new.self) (c.loop-part.invariant bytes come) c.feed_parsed.ensures.next)
+    (come_more (bundles Any).IsFull (bundles Any).judge (bundle_start Any) (bytes ++ concat yielded) part (bundle_reading c.loop-part.reader) (bundle_reading c.feed_parsed.new.self) (c.loop-part.invariant bytes come) c.feed_parsed.ensures.next)
 
 pub returns : goal.returns
 returns c bytes come =

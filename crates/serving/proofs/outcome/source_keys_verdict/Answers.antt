@@ -1,8 +1,8 @@
 use Rattle.std.proofs.lemmas.Result.{IfErr-weaker}
 use Rattle.audit.specs.Faults.{IsAuditFault}
-use Rattle.serving.specs.Faults.{IsBundleFault}
+use Rattle.serving.specs.Faults.{IsVerdictFault}
 use Rattle.serving.proofs.Conditions.{all_taken}
-use Rattle.serving.proofs.Knowing.{verdict_bundle, verdict_fault}
+use Rattle.serving.proofs.Knowing.{verdict_fault}
 use Rattle.serving.proofs.outcome.source_keys_verdict.Goals as goal
 
 pub audit_keys_of-requires : goal.audit_keys_of-requires
@@ -12,6 +12,6 @@ audit_keys_of-requires c =
 pub returns-clause-fault : goal.returns-clause-fault
 returns-clause-fault c =
     let b = c.args.bundle.now in
-    IfErr-weaker c.audit_keys_of.result (IsAuditFault c.opening_set-opened.result.now c.journals.result.now) (IsBundleFault b)
-    (λ f h. verdict_bundle f b (verdict_fault f b c.opening_set-opened.result.now c.journals.result.now c.opening_set-opened.ensures c.journals.ensures h))
+    IfErr-weaker c.audit_keys_of.result (IsAuditFault c.opening_set-opened.result.now c.journals.result.now) (IsVerdictFault b)
+    (λ f h. verdict_fault f b c.opening_set-opened.result.now c.journals.result.now c.opening_set-opened.ensures c.journals.ensures h)
     c.audit_keys_of.ensures.fault

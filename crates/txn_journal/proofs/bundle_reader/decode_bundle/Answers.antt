@@ -1,7 +1,7 @@
 use Rattle.std.specs.Prelude.{None}
 use Rattle.txn_journal.specs.BundleReading.{bundles}
 use Rattle.txn_journal.proofs.FormatLaws.{is_found, is_only, is_refused, whole_of}
-use Rattle.txn_journal.proofs.BundleLaws.{IsSoundBundle, bundle_laws}
+use Rattle.txn_journal.proofs.BundlePlaces.{IsSoundBundle, bundle_laws}
 use Rattle.txn_journal.proofs.bundle_reader.decode_bundle.Goals as goal
 use Rattle.txn_journal.specs.declared.lines.Due.TheVariants.{Any}
 

@@ -5,7 +5,7 @@ use Rattle.txn_journal.specs.declared.fault.JournalFault.{JournalFault}
 use Rattle.txn_journal.specs.Stream.{IsWholeOr}
 use Rattle.txn_journal.specs.BundleReading.{bundles, bundle_start, IsFaultOfBundle, feed_bundle_bytes}
 use Rattle.txn_journal.proofs.FormatLaws.{is_found, is_only, is_refused, whole_of}
-use Rattle.txn_journal.proofs.BundleLaws.{IsSoundBundle, bundle_laws, closing_same}
+use Rattle.txn_journal.proofs.BundlePlaces.{IsSoundBundle, bundle_laws, closing_same}
 use Rattle.txn_journal.proofs.bundle_reader.decode_bundle_by.Goals as goal
 
 pub returns : goal.returns

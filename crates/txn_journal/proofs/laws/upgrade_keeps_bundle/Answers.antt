@@ -1,4 +1,4 @@
-use Rattle.txn_journal.proofs.BundleLaws.{upgraded, upgraded_read}
+use Rattle.txn_journal.proofs.BundlePlaces.{upgraded, upgraded_read}
 use Rattle.txn_journal.proofs.laws.upgrade_keeps_bundle.Goals as goal
 
 pub returns : goal.returns

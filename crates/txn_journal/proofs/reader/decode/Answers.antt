@@ -1,13 +1,12 @@
-use Rattle.std.proofs.Common.{None, Result, subst, sym}
+use Rattle.std.proofs.Common.{Result, subst, sym}
 use Rattle.journal.specs.Journals.{JournalValue}
 use Rattle.txn_journal.specs.Stream.{IsWholeOr}
 use Rattle.txn_journal.specs.Reading.{journals, before_first, feed_journal_bytes, IsFaultAlone, closing}
 use Rattle.txn_journal.specs.Readers.{reading}
 use Rattle.txn_journal.specs.declared.fault.JournalFault.{JournalFault}
 use Rattle.txn_journal.proofs.FormatLaws.{closed_after, is_found, is_only, is_refused, whole_of}
-use Rattle.txn_journal.proofs.JournalLaws.{IsSoundAlone, journal_laws}
+use Rattle.txn_journal.proofs.JournalPlaces.{IsSoundJournal, journal_laws}
 use Rattle.txn_journal.proofs.reader.decode.Goals as goal
-use Rattle.txn_journal.specs.declared.lines.Due.TheVariants.{Any}
 
 pub returns : goal.returns
 returns c =
@@ -15,8 +14,8 @@ returns c =
     let closed = closed_after journals bytes (reading c.over.result) c.over.ensures in
     let read = subst (λ (r : Result JournalValue JournalFault). IsWholeOr (IsFaultAlone before_first bytes) r (closing (feed_journal_bytes before_first bytes))) (sym c.finish.ensures) closed in
     record {
-      found = is_found journals (IsSoundAlone Any) journal_laws c.finish.result bytes read;
-      only = is_only journals (IsSoundAlone Any) journal_laws c.finish.result bytes read;
-      refused = is_refused journals (IsSoundAlone Any) journal_laws c.finish.result bytes read;
+      found = is_found journals IsSoundJournal journal_laws c.finish.result bytes read;
+      only = is_only journals IsSoundJournal journal_laws c.finish.result bytes read;
+      refused = is_refused journals IsSoundJournal journal_laws c.finish.result bytes read;
       exact = whole_of _ _ _ read;
     }
