@@ -1,6 +1,6 @@
 //! Searches for keys whose hashes share their first bits, so that a table of the program finds one home for all of them.
 //!
-//! usage: hostile searched|marked COUNT SECONDS prints up to COUNT values of 16 bytes, as hexadecimal digits, one a line. It stops when it has
+//! usage: hostile searched|marked|named COUNT SECONDS prints up to COUNT values of 16 bytes, as hexadecimal digits, one a line. It stops when it has
 //! them, or when so many seconds of the clock have passed.
 //!
 //! The hash is a port of these texts, line by line:
@@ -10,6 +10,7 @@
 //!   bytes writes those bytes alone (crates/row_images/src/key_values.rt: `Short` and `Shared`).
 //! - `marked`: the mark of a key (crates/audit/src/marks.rt: the table's name, one byte for the index, and the word of the value as a journal
 //!   has it) is a key of 8 bytes in the table of crates/audit/src/owners.rt, so its `hash_of` is of these 8 bytes.
+//! - `named`: the name of a table is a key of the table of names (crates/rows/src/schema.rt), and its hash writes its bytes alone.
 //! - the home of a hash is `hash * slots >> 32` (crates/key_table/src/slots.rt). Hashes that share their first 15 bits have homes that are no
 //!   further apart than the 32768th part of the slots.
 
@@ -81,6 +82,11 @@ fn hash_of_mark(state: u64, value: &[u8; 16]) -> u32 {
     joined(write(INITIAL, &mark.to_le_bytes()))
 }
 
+/// The name of 16 hexadecimal digits of a number.
+fn name_of(number: u64) -> [u8; 16] {
+    std::array::from_fn(|at| DIGITS[(number >> (60 - 4 * at) & 15) as usize])
+}
+
 /// The value of 32 bytes whose first 16 make the state 0, whatever their first 8 are.
 fn zeroed(first: u64) -> [u8; 32] {
     let mut value = [0x5a; 32];
@@ -91,7 +97,7 @@ fn zeroed(first: u64) -> [u8; 32] {
 
 fn main() {
     let words: Vec<String> = std::env::args().collect();
-    let is_marked = words[1] == "marked";
+    let (is_marked, is_named) = (words[1] == "marked", words[1] == "named");
     let count: usize = words[2].parse().unwrap();
     let end = Instant::now() + Duration::from_secs(words[3].parse().unwrap());
     let after_name = write(INITIAL, TABLE);
@@ -106,7 +112,16 @@ fn main() {
             let mut value = [0; 16];
             value[..8].copy_from_slice(&number.wrapping_mul(MULTIPLIER).to_le_bytes());
             value[8..].copy_from_slice(&(!number).to_le_bytes());
-            let hash = if is_marked { hash_of_mark(mark, &value) } else { hash_of_key(key, &value) };
+            if is_named {
+                value = name_of(number.wrapping_mul(MULTIPLIER));
+            }
+            let hash = if is_marked {
+                hash_of_mark(mark, &value)
+            } else if is_named {
+                joined(write(INITIAL, &value))
+            } else {
+                hash_of_key(key, &value)
+            };
             if hash >> (32 - SHARED_BITS) == 0 && found < count {
                 found += 1;
                 for byte in value {

@@ -2,12 +2,13 @@
 // fails with EIO, and with EAGAIN where it is to make a thread), `interrupted` (it fails with EINTR), `always` (it and each later call fail),
 // `none` (a write takes 0 bytes) or `short` (it and each later call move one byte, and nothing fails). Before an error or an interruption the
 // calls move one byte each. It reports that the call came by making the file FAIL_MARK, and puts one byte into it for each later call of that kind.
-// Preloaded by sweep/failed_calls; standard input, standard output and threads alone count.
+// Preloaded by sweep/failed_calls; standard input, the file that the program opened last, standard output and threads alone count.
 #define _GNU_SOURCE
 #include <dlfcn.h>
 #include <errno.h>
 #include <fcntl.h>
 #include <pthread.h>
+#include <stdarg.h>
 #include <stdlib.h>
 #include <string.h>
 #include <sys/syscall.h>
@@ -19,12 +20,12 @@ enum how { WHOLE, SHORT, NONE, ERROR, INTERRUPTED };
 
 static const char *const names[] = {"read", "write", "pthread_create"};
 static long made[3];
-static int mark = -1;
+static int mark = -1, opened = -1;
 
 static void make_mark(void) {
     const char *name = getenv("FAIL_MARK");
     if (name)
-        __atomic_store_n(&mark, open(name, O_CREAT | O_WRONLY | O_APPEND, 0600), __ATOMIC_SEQ_CST);
+        __atomic_store_n(&mark, syscall(SYS_openat, AT_FDCWD, name, O_CREAT | O_WRONLY | O_APPEND, 0600), __ATOMIC_SEQ_CST);
 }
 
 static void count_later_call(void) {
@@ -59,11 +60,19 @@ static int fails(enum how it, int error) {
     return it == ERROR || it == INTERRUPTED;
 }
 
+int open(const char *name, int flags, ...) {
+    va_list more;
+    va_start(more, flags);
+    opened = syscall(SYS_openat, AT_FDCWD, name, flags, flags & O_CREAT ? va_arg(more, int) : 0);
+    va_end(more);
+    return opened;
+}
+
 ssize_t read(int file, void *to, size_t count) {
     static ssize_t (*next)(int, void *, size_t);
     if (!next)
         next = (ssize_t (*)(int, void *, size_t))dlsym(RTLD_NEXT, "read");
-    enum how it = file == STDIN_FILENO ? how(READ) : WHOLE;
+    enum how it = file == STDIN_FILENO || file == opened ? how(READ) : WHOLE;
     if (fails(it, EIO))
         return -1;
     return next(file, to, it == SHORT && count > 1 ? 1 : count);

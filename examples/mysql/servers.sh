@@ -18,7 +18,7 @@ mysql_get() (
   cd "$MYSQL_DIR"
   mkdir -p apt/sources apt/state/lists/partial apt/cache/archives/partial root
   touch apt/state/status
-  mirror=$(grep -rhoE 'https?://[^ ]+/debian/?( |$)' /etc/apt/sources.list /etc/apt/sources.list.d 2>/dev/null | head -1 | tr -d ' ')
+  mirror=$(grep -rhoE 'https?://[^ ]+/debian/?( |$)' /etc/apt/sources.list /etc/apt/sources.list.d 2>/dev/null | head -1 | tr -d ' ' || true)
   printf 'Types: deb\nURIs: %s\nSuites: sid trixie\nComponents: main\nSigned-By: /usr/share/keyrings/debian-archive-keyring.gpg\n' \
     "${mirror:-http://deb.debian.org/debian}" >apt/sources/sid.sources
   cat >apt/apt.conf <<CONF

@@ -2,7 +2,6 @@
 and, for version 3, from its specification."""
 from __future__ import annotations
 
-import os
 import re
 from collections.abc import Callable
 from dataclasses import dataclass
@@ -17,9 +16,6 @@ COUNT_FORM = re.compile(r"0|[1-9][0-9]*")
 
 # The words of assumptions, in the order of their lines.
 ASSUMPTIONS = ("executed", "checksums", "opening", "statements", "ignored", "references", "rows")
-# (the programs don't read these yet, so they are read here only where this variable is set)
-LATER_ASSUMPTIONS = {"statements"}
-IS_WHOLE = bool(os.environ.get("REFERENCE_VERSION_3"))
 
 
 def is_short_name(word: str) -> bool:
@@ -65,7 +61,7 @@ VERSION_3 = Format(
     most_bytes=2**32 - 1,
     references=65_536,
     assumptions=65_536,
-    assumed=tuple(it for it in ASSUMPTIONS if IS_WHOLE or it not in LATER_ASSUMPTIONS),
+    assumed=ASSUMPTIONS,
     has_places=True,
     has_hidden=True,
 )

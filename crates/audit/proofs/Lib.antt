@@ -24,6 +24,7 @@ pub mod Nearest
 pub mod Gapped
 pub mod Refusals
 pub mod MarkLemmas
+pub mod Worded
 pub mod Gatherings
 pub mod Listings
 pub mod Owning

@@ -1,19 +1,15 @@
 -- Marks of keys, and who touched them.
-use Rattle.std.proofs.Common.{◌≡◌, ℕ, ◌==◌, Bool, true, false, cond, ◌||◌, nat_eq, List, [], ◌∷◌, ◌++◌, length, map, option_map, Option, Some, None, inl, inr, refl, sym, ap, ◌∙◌}
+use Rattle.std.proofs.Common.{◌≡◌, ℕ, ◌==◌, Bool, true, false, cond, ◌||◌, nat_eq, List, [], ◌∷◌, ◌++◌, map, Option, Some, None, inl, inr, refl, sym, ap, ◌∙◌}
 use Rattle.std.specs.Prelude.{bit_and, slice_get, slice_set}
 use Rattle.std.specs.List.{list_all}
 use Rattle.std.specs.Option.{option_map_or}
 use Rattle.std.specs.FinMap as finmap
 use Rattle.std.specs.FinMap.{get-insert}
 use Rattle.std.proofs.lemmas.Bool.{eqb-true, eq-eqb, or_cases, or_left, or_right, and_from}
-use Rattle.std.proofs.lemmas.Option.{same_Some, slice_get-map}
+use Rattle.std.proofs.lemmas.Option.{same_Some}
 use Rattle.lemmas.proofs.Options.{none_some}
 use Rattle.lemmas.proofs.Lists.{get_set_cases, get_set_from}
 use Rattle.gtid_text.specs.declared.Gtid.{Gtid}
-use Rattle.row_images.specs.declared.value.Value.{Value}
-use Rattle.row_images.specs.Images.{AreValues, values_text, words_of}
-use Rattle.row_images.specs.Values.{value_text}
-use Rattle.row_images.proofs.ImageLaws.{words_texts}
 use Rattle.rows.specs.declared.change.Key.{Key}
 use Rattle.rows.specs.Order.{key_cmp, key_eq}
 use Rattle.rows.specs.Total.{key_total, key_eq_same, key_eq_self}
@@ -22,12 +18,6 @@ use Rattle.world.specs.Folds.{FirstTouch}
 use Rattle.audit.specs.Gaps.{touch_last, is_own}
 use Rattle.audit.specs.Marks.{AreMarked, TouchesMarks, is_marked, key_mark, owner_by, owner_in}
 use Rattle.audit.specs.declared.owners.MarkSlot.{MarkSlot}
-
--- ---- the words of a row's text
-
-pub words_at : (row : List Value) (text : List ℕ) (k : ℕ) → AreValues row → (length row == 0) ≡ false → text ≡ values_text row → slice_get (words_of text) k ≡ option_map value_text (slice_get row k)
-words_at [] text k are some is = absurd cc
-words_at (v ∷ vs) text k are some is = ap (λ t. slice_get (words_of t) k) is ∙ ap (λ ws. slice_get ws k) (words_texts v vs are) ∙ slice_get-map value_text (v ∷ vs) k
 
 -- ---- a source touches marks
 

@@ -10,6 +10,7 @@ pub mod OtherUnequal
 pub mod OtherGaps
 pub mod OtherRefusals
 pub mod Marks
+pub mod RowTexts
 pub mod Owned
 pub mod Gathering
 pub mod Firsts

@@ -40,9 +40,10 @@
 //! up then, and the order itself is made only when it is to be applied. Each key of each entry is looked up once, and once more when it is
 //! new; a chain has a GTID for each transaction that touches its key.
 //!
-//! Cost, from the code and not proved: n log n in entries at most; the mark of each key is looked up once. Measured: 570,000 transactions a
-//! second of 1,000,000. Whoever writes a journal may choose keys whose hashes or marks collide: the tables' worst case does not depend on
-//! hashes (`key_table`), and if marks collide the keys themselves are compared.
+//! Cost, from the code and not proved: n log n in entries at most; the mark of each key is looked up once. Of a key of up to 16 columns each
+//! word is looked for from the start of its row; where a table has a key of more, the words of a row are listed once (`row_words`). Measured:
+//! 570,000 transactions a second of 1,000,000. Whoever writes a journal may choose keys whose hashes or marks collide: the tables' worst
+//! case does not depend on hashes (`key_table`), and if marks collide the keys themselves are compared.
 #![tactic(auto)]
 
 mod applying;
@@ -73,6 +74,7 @@ mod owners;
 mod pairs;
 mod parted;
 mod purged;
+mod row_words;
 mod shared;
 mod skipped;
 mod sources;

@@ -17,3 +17,4 @@ pub mod Appended
 pub mod WrittenLines
 pub mod Exact
 pub mod BundleRead
+pub mod EventLines

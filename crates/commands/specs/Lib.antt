@@ -12,6 +12,7 @@ pub mod LogPlaces
 pub mod Imports
 pub mod Positions
 pub mod States
+pub mod Events
 pub mod Texts
 pub mod Version
 pub mod Listings

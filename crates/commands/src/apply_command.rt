@@ -17,6 +17,7 @@ use crate::unapplied::unapplied_answer;
 use applier::NoGate;
 use gtid_report::Fault;
 use serving::Order;
+use source_shares::NoShareGate;
 use std::alloc::Global;
 use std::sync::Wait;
 use std::thread::Threads;
@@ -55,7 +56,10 @@ impl<'a, R: Threads + Wait + Sync> Request for ApplyRequest<'a, R> {
         }
         let rt = self.threads;
         match self.way {
-            Way::Merge => Ok(merge_held(rt, alloc, bundle, self.order, self.workers)?.leave()),
+            Way::Merge => {
+                let held = merge_held(rt, alloc, bundle, self.order, self.workers, &NoShareGate)?;
+                Ok(held.leave())
+            }
             Way::Replica => apply_decoded(rt, alloc, bundle, self.order, self.workers, &NoGate),
         }
     }

@@ -1,5 +1,5 @@
 //! The commands as a library, over any reader and writer: `run_set`, `run_position`, `run_audit`, `run_list`, `run_explain`, `run_upgrade`,
-//! `run_states`, `run_import`, `apply_bundle`, `apply_and_tell`, `run_version`; and over a bundle that was read `apply_decoded`,
+//! `run_states`, `run_events`, `run_import`, `apply_bundle`, `apply_and_tell`, `run_version`; and over a bundle that was read `apply_decoded`,
 //! `merge_decoded` and `apply_journals`, by threads.
 //!
 //! What a contract sees: of `Streams` the reader with the bytes that it has left and its failed calls (`Input`), and the writer with the
@@ -44,6 +44,7 @@ mod audit_command;
 mod blocks;
 mod bundle_reading;
 mod edge;
+mod events_command;
 mod explain_command;
 mod history_command;
 mod import_command;
@@ -77,6 +78,7 @@ pub use answer::Answer;
 pub use apply_command::{Way, apply_bundle};
 pub use audit_command::run_audit;
 pub use edge::{Failed, Outcome, RunFault, Sink, Source};
+pub use events_command::run_events;
 pub use explain_command::run_explain;
 pub use history_command::apply_and_tell;
 pub use import_command::run_import;

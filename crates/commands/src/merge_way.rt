@@ -24,7 +24,7 @@ use replica_core::Core;
 use row_parts::list_whole;
 use rows::{Key, Row};
 use serving::{Order, StateOrVerdict, keeps_servable, serve};
-use source_shares::{Merged, merge_by_shares};
+use source_shares::{Merged, ShareGate, merge_by_shares};
 use std::alloc::{AllocError, Global};
 use std::mem;
 use std::thread::Threads;
@@ -164,11 +164,12 @@ fn apply_beside<R: Threads>(
 const MOST_SHARES: usize = 4;
 
 /// Applies a bundle by threads, each a share of its sources, if these share no key; nothing if that can't be done.
-fn apply_by_shares<R: Threads + Sync>(
+fn apply_by_shares<G: ShareGate + Sync, R: Threads + Sync>(
     rt: &R,
     alloc: Global,
     bundle: &Bundle,
     workers: u8,
+    gate: &G,
 ) -> Result<Option<KeptAnswer>, AllocError>
     requires { 1 ≤ workers }
     ensures { IfOk result (λ found. IfSome found (λ held. Holds held.answer (applied_answer BySource bundle.now))) }
@@ -177,7 +178,7 @@ fn apply_by_shares<R: Threads + Sync>(
     let most = usize::from(workers).min(MOST_SHARES);
     let opened = bundle.opening_set();
     let rows = bundle.rows();
-    let found = merge_by_shares(rt, alloc, opened, rows, bundle.journals(), most);
+    let found = merge_by_shares(rt, alloc, opened, rows, bundle.journals(), most, gate);
     let Some(merged) = found else {
         return Ok(None);
     };
@@ -195,19 +196,20 @@ fn apply_by_shares<R: Threads + Sync>(
 
 /// Applies a bundle with two or more workers. By `BySource`: by shares of its sources, or else on one thread. By `ByConflict`: on one
 /// thread, while a second one audits the keys.
-fn apply_side_by_side<R: Threads + Sync>(
+fn apply_side_by_side<G: ShareGate + Sync, R: Threads + Sync>(
     rt: &R,
     alloc: Global,
     bundle: &Bundle,
     order: Order,
     workers: u8,
+    gate: &G,
 ) -> Result<KeptAnswer, Fault>
     requires { 1 ≤ workers }
     ensures comes { IfOk result (λ held. Holds held.answer (applied_answer order bundle.now)) }
     ensures fault { IfErr result (GivesUp (IsBundleFault bundle.now)) }
 {
     if let Order::BySource = order {
-        return match apply_by_shares(rt, alloc, bundle, workers)? {
+        return match apply_by_shares(rt, alloc, bundle, workers, gate)? {
             Some(held) => Ok(held),
             None => apply_alone(alloc, bundle, order),
         };
@@ -216,12 +218,13 @@ fn apply_side_by_side<R: Threads + Sync>(
 }
 
 /// The result of a bundle whose opening rows are known, with what was made for it: by one thread, or by several at the same time.
-pub(crate) fn merge_held<R: Threads + Sync>(
+pub(crate) fn merge_held<G: ShareGate + Sync, R: Threads + Sync>(
     rt: &R,
     alloc: Global,
     bundle: &Bundle,
     order: Order,
     workers: u8,
+    gate: &G,
 ) -> Result<KeptAnswer, Fault>
     requires { 1 ≤ workers }
     ensures comes { IfOk result (λ held. Holds held.answer (applied_answer order bundle.now)) }
@@ -230,7 +233,7 @@ pub(crate) fn merge_held<R: Threads + Sync>(
     if workers == 1 {
         apply_alone(alloc, bundle, order)
     } else {
-        apply_side_by_side(rt, alloc, bundle, order, workers)
+        apply_side_by_side(rt, alloc, bundle, order, workers, gate)
     }
 }
 
@@ -240,12 +243,13 @@ pub(crate) fn merge_held<R: Threads + Sync>(
 /// if the shares give nothing one thread goes on alone: more were slower wherever it was measured.) A refusal is `SourcesFull`, if the
 /// GTIDs of all journals together are of more than 65,536 sources, or `PoolFull`, if the intervals of the opening set and of the previous
 /// sets and the entries are together more than 4,294,967,294.
-pub fn merge_decoded<R: Threads + Sync>(
+pub fn merge_decoded<G: ShareGate + Sync, R: Threads + Sync>(
     rt: &R,
     alloc: Global,
     bundle: &Bundle,
     order: Order,
     workers: u8,
+    gate: &G,
 ) -> Result<Answer, Fault>
     requires { (1 ≤ workers) × (workers ≤ 64) }
     ensures comes { IfOk result (λ answer. Holds answer (apply_answer order bundle.now)) }
@@ -254,6 +258,6 @@ pub fn merge_decoded<R: Threads + Sync>(
     if bundle.lacks_rows() {
         return unapplied_answer(alloc, order, bundle, rows_line(bundle));
     }
-    let held = merge_held(rt, alloc, bundle, order, workers)?;
+    let held = merge_held(rt, alloc, bundle, order, workers, gate)?;
     Ok(held.free())
 }

@@ -1,6 +1,6 @@
 //! The reader and the writer of a command.
-ghost use Rattle.std.specs.Prelude.{◌≡◌, IfOk, IfErr, OnOk, OnErr};
-ghost use Rattle.std.specs.Io.KnownBytes.{Appends};
+ghost use Rattle.std.specs.Prelude.{◌≡◌, ◌≤◌, length, IfOk, IfErr, OnOk, OnErr};
+ghost use Rattle.std.specs.Io.KnownBytes.{Appends, ReadConsumes};
 ghost use Rattle.commands.specs.Edge.{input_of, output_of, one_more, Begins, HasRead, ReadFault};
 ghost use Rattle.commands.specs.States.{HasWritten, HasBroken};
 ghost use Rattle.commands.specs.Texts.{HasAllCome, HasFound};
@@ -86,16 +86,41 @@ impl<S: Source, W: Sink> Streams<S, W> {
         read_text(alloc, &mut self.reader)
     }
 
+    /// Some of the bytes that the reader has left; none at their end.
+    pub(crate) fn read_some(&mut self, buffer: &mut [u8]) -> Result<usize, RunFault>
+        ensures output { self.new.output ≡ self.old.output }
+        ensures bound { IfOk result (λ n. n ≤ length buffer.new) }
+        ensures bytes { ReadConsumes self.old.input.left self.new.input.left result buffer.new }
+        ensures calm { OnOk result (self.new.input.failed ≡ self.old.input.failed) }
+        ensures fault { IfErr result (λ f. f ≡ RunFault.Read) }
+        ensures counted { OnErr result (self.new.input.failed ≡ one_more self.old.input.failed) }
+    {
+        match self.reader.read(buffer) {
+            Ok(n) => Ok(n),
+            Err(_) => Err(RunFault::Read),
+        }
+    }
+
+    /// Writes a part of an answer.
+    pub(crate) fn write_bytes(&mut self, bytes: &[u8]) -> Result<(), RunFault>
+        ensures input { self.new.input ≡ self.old.input }
+        ensures done { OnOk result (HasWritten self.old.output self.new.output bytes.now) }
+        ensures fault { IfErr result (HasBroken self.old.output self.new.output bytes.now) }
+        ensures write { IfErr result (λ f. f ≡ RunFault.Write) }
+    {
+        match self.writer.write(bytes) {
+            Ok(()) => Ok(()),
+            Err(_) => Err(RunFault::Write),
+        }
+    }
+
     /// Writes a part of an answer.
     pub(crate) fn write(&mut self, text: &str) -> Result<(), RunFault>
         ensures input { self.new.input ≡ self.old.input }
         ensures done { OnOk result (HasWritten self.old.output self.new.output text.now) }
         ensures fault { IfErr result (HasBroken self.old.output self.new.output text.now) }
     {
-        match self.writer.write(text.as_bytes()) {
-            Ok(()) => Ok(()),
-            Err(_) => Err(RunFault::Write),
-        }
+        self.write_bytes(text.as_bytes())
     }
 
     /// Writes an answer.

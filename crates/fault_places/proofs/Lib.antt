@@ -7,3 +7,4 @@ mod Hiding
 mod LineLeft
 mod Within
 mod Worded
+mod Days

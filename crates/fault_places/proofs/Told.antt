@@ -11,16 +11,16 @@ pub lines_from : (ls : List (Bor (List ℕ))) (i : ℕ) (d : Bor (List ℕ)) →
 lines_from ls i d h =
     ap (map (λ x. x.now)) (drop-cons ls i d h) ∙ ap (λ k. (get_or ls i d).now ∷ map (λ x. x.now) (drop k ls)) (sym (add-one i))
 
-pub entries_next : (ts : List Table) (g : List ℕ) (wanted : Wanted) (name more : List ℕ) (s t : Standing) (n : ℕ) (line : List ℕ) (all rest : List (List ℕ)) (out next end : List ℕ)
-    → all ≡ line ∷ rest → next ≡ out ++ report_entry ts g wanted name s n line → more ≡ channel_after name line → t ≡ after g s line
-    → out ++ report_entries ts g wanted name s n all ≡ end → next ++ report_entries ts g wanted more t (n + 1) rest ≡ end
-entries_next ts g wanted name more s t n line all rest out next end lines told named stood h =
-    let one : List ℕ = report_entry ts g wanted name s n line in
-    ap (λ x. x ++ report_entries ts g wanted more t (n + 1) rest) told
-    ∙ ap (λ x. (out ++ one) ++ report_entries ts g wanted x t (n + 1) rest) named
-    ∙ ap (λ x. (out ++ one) ++ report_entries ts g wanted (channel_after name line) x (n + 1) rest) stood
-    ∙ append_assoc out one (report_entries ts g wanted (channel_after name line) (after g s line) (n + 1) rest)
-    ∙ sym (ap (λ x. out ++ report_entries ts g wanted name s n x) lines) ∙ h
+pub entries_next : (ts : List Table) (g : List ℕ) (wanted : Wanted) (before name more : List ℕ) (s t : Standing) (n : ℕ) (line : List ℕ) (all rest : List (List ℕ)) (out next end : List ℕ)
+    → all ≡ line ∷ rest → next ≡ out ++ report_entry ts g wanted before name s n line → more ≡ channel_after name line → t ≡ after g s line
+    → out ++ report_entries ts g wanted before name s n all ≡ end → next ++ report_entries ts g wanted line more t (n + 1) rest ≡ end
+entries_next ts g wanted before name more s t n line all rest out next end lines told named stood h =
+    let one : List ℕ = report_entry ts g wanted before name s n line in
+    ap (λ x. x ++ report_entries ts g wanted line more t (n + 1) rest) told
+    ∙ ap (λ x. (out ++ one) ++ report_entries ts g wanted line x t (n + 1) rest) named
+    ∙ ap (λ x. (out ++ one) ++ report_entries ts g wanted line (channel_after name line) x (n + 1) rest) stood
+    ∙ append_assoc out one (report_entries ts g wanted line (channel_after name line) (after g s line) (n + 1) rest)
+    ∙ sym (ap (λ x. out ++ report_entries ts g wanted before name s n x) lines) ∙ h
 
 pub previous_next : (name more : List ℕ) (s t : Standing) (n : ℕ) (line : List ℕ) (all rest : List (List ℕ)) (out next end : List ℕ)
     → all ≡ line ∷ rest → next ≡ out ++ report_previous name s n line → more ≡ channel_after name line → t ≡ after [] s line

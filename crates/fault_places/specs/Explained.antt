@@ -22,6 +22,7 @@ use Rattle.fault_places.specs.declared.wanted.Wanted.TheVariants.{Every, OfTable
 use Rattle.fault_places.specs.Lines.{second_word, word_at, is_table, shorten}
 use Rattle.gtid_report.specs.Assumed.{is_implied}
 use Rattle.fault_places.specs.Places.{line_text, places_of, bare_places, previous_sets}
+use Rattle.fault_places.specs.Twice.{read_until_twice}
 use Rattle.fault_places.specs.AssumedPlaces.{assumed_places}
 use Rattle.fault_places.specs.Next.{next_there}
 use Rattle.fault_places.specs.Due.{line_at, due_at}
@@ -106,12 +107,16 @@ cause_text Stamp n lines = codes "  the sequence number is not the entry's place
 abbrev pub faulty_line : ℕ → List (List ℕ) → List ℕ
 faulty_line n lines = codes "  " ++ line_text n (line_at lines n)
 
+-- the previous sets, and the places of a GTID
+abbrev pub twice_text : Gtid → List (List ℕ) → List ℕ
+twice_text g lines = previous_sets lines ++ bare_places (gtid_text g) lines
+
 -- what explains a refusal; a bundle has no other refusals than these
 abbrev pub refusal_explained : List (List ℕ) → Refusal → List ℕ
 refusal_explained lines (Line n cause) = faulty_line n lines ++ cause_text cause n lines
 refusal_explained lines (Truncated n) = faulty_line n lines ++ due_text n lines
 refusal_explained lines (Version n) = faulty_line n lines ++ due_text n lines
-refusal_explained lines (Twice g) = previous_sets lines ++ bare_places (gtid_text g) lines
+refusal_explained lines (Twice g) = twice_text g (read_until_twice g lines)
 refusal_explained lines SourcesFull = codes "  a set has more than 65536 sources\n"
 refusal_explained lines PoolFull = codes "  a set has more than 4294967294 intervals\n"
 refusal_explained lines r = []

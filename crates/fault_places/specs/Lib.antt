@@ -2,7 +2,10 @@ pub mod Lines
 pub mod HiddenValues
 pub mod LeftOut
 pub mod Channels
+pub mod Times
+pub mod LogPlaces
 pub mod Places
+pub mod Twice
 pub mod AssumedPlaces
 pub mod Next
 pub mod Due

@@ -8,6 +8,7 @@ use Rattle.fault_places.specs.declared.wanted.Wanted.TheVariants.{Every, OfTable
 use Rattle.fault_places.specs.Channels.{label}
 use Rattle.fault_places.specs.Lines.{second_word, is_channel, is_previous, is_transaction, is_change, shorten}
 use Rattle.fault_places.specs.HiddenValues.{without_hidden}
+use Rattle.fault_places.specs.LogPlaces.{log_place_text}
 
 -- ---- the channel, entry and change of a line
 
@@ -57,22 +58,26 @@ is_wanted (OfTable table) place line = bytes_eq (second_word line) table
 is_wanted (Numbered number) place line = place == number
 is_wanted Nothing place line = false
 
--- for a transaction with this GTID its place, for its changes those that are wanted, and nothing for other lines
-abbrev pub report_entry : List Table → List ℕ → Wanted → List ℕ → Standing → ℕ → List ℕ → List ℕ
-report_entry tables g wanted name s n line =
-    if is_named g line then entry_text g name s n
+-- a transaction's place, and where a server's log has it, by the line before its own
+abbrev pub named_text : List ℕ → List ℕ → List ℕ → Standing → ℕ → List ℕ
+named_text g before name s n = entry_text g name s n ++ log_place_text before
+
+-- for a transaction with this GTID its places, for its changes those that are wanted, and nothing for other lines
+abbrev pub report_entry : List Table → List ℕ → Wanted → List ℕ → List ℕ → Standing → ℕ → List ℕ → List ℕ
+report_entry tables g wanted before name s n line =
+    if is_named g line then named_text g before name s n
     else if s.inside && (is_change line && is_wanted wanted s.changes line) then change_text tables s n line
     else []
 
 -- the same for line n and those after it
-abbrev pub report_entries : List Table → List ℕ → Wanted → List ℕ → Standing → ℕ → List (List ℕ) → List ℕ
-report_entries tables g wanted name s n [] = []
-report_entries tables g wanted name s n (line ∷ lines) =
-    report_entry tables g wanted name s n line ++ report_entries tables g wanted (channel_after name line) (after g s line) (n + 1) lines
+abbrev pub report_entries : List Table → List ℕ → Wanted → List ℕ → List ℕ → Standing → ℕ → List (List ℕ) → List ℕ
+report_entries tables g wanted before name s n [] = []
+report_entries tables g wanted before name s n (line ∷ lines) =
+    report_entry tables g wanted before name s n line ++ report_entries tables g wanted line (channel_after name line) (after g s line) (n + 1) lines
 
 -- each transaction with this GTID, with those of its changes that are wanted
 abbrev pub places_of : List Table → List ℕ → Wanted → List (List ℕ) → List ℕ
-places_of tables g wanted lines = report_entries tables g wanted [] at_start 1 lines
+places_of tables g wanted lines = report_entries tables g wanted [] [] at_start 1 lines
 
 -- each transaction with this GTID, without its changes
 abbrev pub bare_places : List ℕ → List (List ℕ) → List ℕ

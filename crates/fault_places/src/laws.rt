@@ -1,5 +1,6 @@
-//! The laws of `inverted_pair` and of `without_hidden`. A function's contract is the law, and its body is empty.
+//! The laws of `inverted_pair`, of `without_hidden` and of `civil_day`. A function's contract is the law, and its body is empty.
 ghost use Rattle.fault_places.specs.LeftOut.{HiddenValuesAreLeftOut};
+ghost use Rattle.fault_places.specs.Times.{DaysHaveTheirDates};
 ghost use Rattle.fault_places.specs.TwoOrders.{TwoOrdersAreFound};
 
 /// Of the line of a change that the tables take, `explain_verdict` shows the first 120 bytes of what is the line of the change without the
@@ -12,4 +13,9 @@ pub fn hidden_values_are_left_out()
 /// bring two transactions in opposite orders, and those that it shows are such. (No journal has a GTID twice: `Journal` keeps that.)
 pub fn two_orders_are_found()
     ensures { TwoOrdersAreFound }
+{}
+
+/// The date that is shown of an instant is that of its day in `jiff_core`'s calendar, which extends the Gregorian one to all years.
+pub fn days_have_their_dates()
+    ensures { DaysHaveTheirDates }
 {}

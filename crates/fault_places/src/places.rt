@@ -1,11 +1,12 @@
 //! Where in the text the transactions of a GTID and the previous sets of journals are.
 ghost use Rattle.std.specs.Prelude.{◌≡◌, ◌++◌, OnOk, map, length, ◌<◌, ◌^◌};
 ghost use Rattle.fault_places.specs.HiddenValues.{without_hidden};
-ghost use Rattle.fault_places.specs.Places.{channel_text, line_text, entry_text, change_text, report_entry, places_of, report_previous, previous_sets};
+ghost use Rattle.fault_places.specs.Places.{channel_text, line_text, entry_text, named_text, change_text, report_entry, places_of, report_previous, previous_sets};
 
 use crate::channels::put_label;
 use crate::hidden_values::{ShownTables, put_without_hidden};
 use crate::lines::{is_change, is_previous, put, put_number, put_shown};
+use crate::log_places::put_log_place;
 use crate::standing::{Standing, channel_after, is_named};
 use crate::wanted::Wanted;
 use rows::Schema;
@@ -49,6 +50,21 @@ fn put_entry(
     put(out, "\n")
 }
 
+/// A transaction's place, and where a server's log has it, by the line before its own.
+fn put_named(
+    out: &mut Vec<u8>,
+    gtid: &[u8],
+    before: &[u8],
+    name: &[u8],
+    standing: Standing,
+    number: usize,
+) -> Result<(), AllocError>
+    ensures { OnOk result (out.new.items ≡ out.old.items ++ named_text gtid.now before.now name.now standing number) }
+{
+    put_entry(out, gtid, name, standing, number)?;
+    put_log_place(out, before)
+}
+
 /// The line of a change without the values that its table hides, and its number from 1.
 fn put_change_line(
     alloc: Global,
@@ -82,22 +98,23 @@ fn put_change(
     put_change_line(alloc, out, tables, number, line)
 }
 
-/// What is shown of a line.
+/// What is shown of a line; `before` is the line before it.
 fn report_entry(
     alloc: Global,
     out: &mut Vec<u8>,
     tables: &ShownTables,
     gtid: &[u8],
     wanted: &Wanted,
+    before: &[u8],
     name: &[u8],
     standing: Standing,
     number: usize,
     line: &[u8],
 ) -> Result<(), AllocError>
-    ensures { OnOk result (out.new.items ≡ out.old.items ++ report_entry tables.now.schema.now gtid.now wanted.now name.now standing number line.now) }
+    ensures { OnOk result (out.new.items ≡ out.old.items ++ report_entry tables.now.schema.now gtid.now wanted.now before.now name.now standing number line.now) }
 {
     if is_named(gtid, line) {
-        return put_entry(out, gtid, name, standing, number);
+        return put_named(out, gtid, before, name, standing, number);
     }
     if standing.inside && is_change(line) && wanted.takes(standing.changes, line) {
         return put_change(alloc, out, tables, standing, number, line);
@@ -118,6 +135,7 @@ fn report_all(
     ensures { OnOk result (out.new.items ≡ out.old.items ++ places_of tables.now.schema.now gtid.now wanted.now (map (λ x. x.now) lines.now)) }
 {
     let mut standing = Standing::at_start();
+    let mut before: &[u8] = &[];
     let mut name: &[u8] = &[];
     for (i, line) in lines.iter().enumerate() {
         report_entry(
@@ -126,11 +144,13 @@ fn report_all(
             tables,
             gtid,
             wanted,
+            before,
             name,
             standing,
             i + 1,
             line,
         )?;
+        before = line;
         name = channel_after(name, line);
         standing = standing.after(gtid, line);
     }
@@ -138,7 +158,7 @@ fn report_all(
 }
 
 /// Each transaction with this GTID, with those of its changes that are wanted: its channel and its entry, counted from 0, and its line,
-/// counted from 1. Of changes the values that their tables hide are left out.
+/// counted from 1, and where a server's log has it, if the line before says so. Of changes the values that their tables hide are left out.
 pub(crate) fn put_places(
     alloc: Global,
     out: &mut Vec<u8>,

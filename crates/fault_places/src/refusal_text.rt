@@ -1,13 +1,16 @@
 //! What explains a refusal.
 ghost use Rattle.std.specs.Prelude.{◌≡◌, ℕ, ◌++◌, ◌<◌, ◌^◌, OnOk, IfOk, map, length};
 ghost use Rattle.fault_places.specs.Lines.{lines_of};
-ghost use Rattle.fault_places.specs.Explained.{due_text, cause_text, faulty_line, refusal_explained};
+ghost use Rattle.fault_places.specs.Twice.{read_until_twice};
+ghost use Rattle.fault_places.specs.Explained.{due_text, cause_text, faulty_line, twice_text, refusal_explained};
 
 use crate::due::{due_at, line_at};
 use crate::lines::{lines_of, put};
 use crate::places::{put_line, put_previous_sets};
+use crate::twice::count_read;
 use crate::verdict_text::put_bare;
 use gtid_report::{LineCause, Refusal};
+use gtid_text::{Gtid, write_gtid};
 use std::alloc::{AllocError, Global};
 
 /// The lines that are allowed in the place of a line.
@@ -62,6 +65,36 @@ fn put_misplaced(out: &mut Vec<u8>, number: usize, lines: &[&[u8]]) -> Result<()
     put_due(out, number, lines)
 }
 
+/// The previous set of each journal, and each place of a GTID.
+fn put_each_place(
+    alloc: Global,
+    out: &mut Vec<u8>,
+    gtid: &Gtid,
+    lines: &[&[u8]],
+) -> Result<(), AllocError>
+    requires { length lines.now < 2 ^ 63 }
+    ensures { OnOk result (out.new.items ≡ out.old.items ++ twice_text gtid.now (map (λ x. x.now) lines.now)) }
+{
+    put_previous_sets(out, lines)?;
+    put_bare(alloc, out, gtid, lines)
+}
+
+/// The same for a GTID that comes twice, of the lines that were read.
+fn put_twice(
+    alloc: Global,
+    out: &mut Vec<u8>,
+    gtid: &Gtid,
+    lines: &[&[u8]],
+) -> Result<(), AllocError>
+    requires { length lines.now < 2 ^ 63 }
+    ensures { OnOk result (out.new.items ≡ out.old.items ++ twice_text gtid.now (read_until_twice gtid.now (map (λ x. x.now) lines.now))) }
+{
+    let mut text = String::new(alloc);
+    write_gtid(&mut text, *gtid)?;
+    let count = count_read(alloc, gtid, text.as_bytes(), lines)?;
+    put_each_place(alloc, out, gtid, &lines[..count])
+}
+
 /// What explains a refusal.
 fn put_refusal(
     alloc: Global,
@@ -79,10 +112,7 @@ fn put_refusal(
         }
         Refusal::Truncated(number) => put_misplaced(out, *number as usize, lines),
         Refusal::Version(number) => put_misplaced(out, *number as usize, lines),
-        Refusal::Twice(gtid) => {
-            put_previous_sets(out, lines)?;
-            put_bare(alloc, out, gtid, lines)
-        }
+        Refusal::Twice(gtid) => put_twice(alloc, out, gtid, lines),
         Refusal::SourcesFull => put(out, "  a set has more than 65536 sources\n"),
         Refusal::PoolFull => put(out, "  a set has more than 4294967294 intervals\n"),
         _ => Ok(()),

@@ -8,6 +8,7 @@ use Rattle.commands.specs.Bundles.{Audits, Upgrades, Applies}
 use Rattle.commands.specs.Listings.{Lists}
 use Rattle.commands.specs.Explaining.{Explains}
 use Rattle.commands.specs.States.{IsStatesAnswer}
+use Rattle.commands.specs.Events.{IsEventsAnswer, HasEndedEarly}
 use Rattle.commands.specs.Imports.{Imports}
 use Rattle.commands.specs.Version.{printed_version}
 use Rattle.commands.specs.Applying.{Tells}
@@ -16,12 +17,13 @@ use Rattle.commands.specs.declared.edge.Outcome.{Outcome}
 use Rattle.commands.specs.declared.edge.RunFault.{RunFault}
 use Rattle.gtidrep.specs.declared.line.Listing.TheVariants as listing
 use Rattle.gtidrep.specs.declared.line.Command.{Command}
-use Rattle.gtidrep.specs.declared.line.Command.TheVariants.{Set, Position, Audit, Upgrade, States, Import, Version, Apply, Tell}
+use Rattle.gtidrep.specs.declared.line.Command.TheVariants.{Set, Position, Audit, Upgrade, States, Import, Events, Version, Apply, Tell}
 
--- a command answers on standard output alone, at once or in parts, or reports there and on standard error
+-- a command answers on standard output alone, at once or in parts or while it reads, or reports there and on standard error
 pub data Doing : Type 1 where
   answers : Answering → Doing
   answers_in_parts : Answering → Doing
+  lists_events : Doing
   reports : (List ℕ → Printed → List ℕ → Type 0) → Doing
 
 -- what each command does
@@ -34,6 +36,7 @@ doing_of (Audit order listing.Explained) = reports (Explains order)
 doing_of (Upgrade target) = answers (to_all (Upgrades target))
 doing_of States = answers_in_parts (to_all IsStatesAnswer)
 doing_of (Import grants is_explained) = reports (Imports grants is_explained)
+doing_of (Events file) = lists_events
 doing_of Version = answers (at_once printed_version)
 doing_of (Apply way order workers) = answers (to_all (Applies order))
 doing_of (Tell order workers) = reports (Tells order)
@@ -43,10 +46,13 @@ module _ {S W E : Type 0} (written : E → Option (List ℕ)) (failed : E → �
   abbrev pub HasRun : Doing → Outcome → Type 0
   HasRun (answers answering) outcome = IsDone answering before after outcome × (new ≡ old)
   HasRun (answers_in_parts answering) outcome = IsDone answering before after outcome × (new ≡ old)
+  HasRun lists_events outcome = IsDone (to_all IsEventsAnswer) before after outcome × (new ≡ old)
   HasRun (reports notes) outcome = HasReported written failed notes old new before after outcome
 
-  -- it has failed, with standard error as it was, or with the notes on it cut off; of an answer in parts there may be some
+  -- it has failed, with standard error as it was, or with the notes on it cut off; of an answer in parts there may be some,
+  -- and of a list of events those of the bytes that were read
   abbrev pub HasNotRun : Doing → RunFault → Type 0
   HasNotRun (answers answering) fault = HasFailed answering before after fault × (new ≡ old)
   HasNotRun (answers_in_parts answering) fault = HasStopped answering before after fault × (new ≡ old)
+  HasNotRun lists_events fault = HasEndedEarly before after fault × (new ≡ old)
   HasNotRun (reports notes) fault = HasNotReported written failed notes old new before after fault

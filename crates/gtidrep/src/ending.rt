@@ -1,6 +1,6 @@
 //! How the program ends: its exit status, and its message on standard error.
 ghost use Rattle.std.specs.Prelude.{◌≡◌};
-ghost use Rattle.gtidrep.specs.Status.{message_of, status_of};
+ghost use Rattle.gtidrep.specs.Status.{message_of, ran_over_file, status_of};
 
 use crate::help::FUNCTIONS;
 use crate::line::CommandFault;
@@ -11,8 +11,20 @@ use commands::{Outcome, RunFault};
 pub enum Ending {
     /// A command ran.
     Ran(Result<Outcome, RunFault>),
+    /// The file that a command was to read couldn't be opened, or reading it failed.
+    FileUnread,
     /// The words of the command line are no command.
     NoCommand(CommandFault),
+}
+
+/// How the program ends where a command has run over a file in the place of standard input.
+pub fn ran_over_file(ended: Result<Outcome, RunFault>) -> Ending
+    ensures { result ≡ ran_over_file ended }
+{
+    match ended {
+        Err(RunFault::Read) => Ending::FileUnread,
+        ended => Ending::Ran(ended),
+    }
 }
 
 /// The status that the program ends with (our own rule).
@@ -27,6 +39,7 @@ pub fn exit_status(ending: &Ending) -> u8
         Ending::Ran(Err(RunFault::Memory)) => 3,
         Ending::Ran(Err(RunFault::Read)) => 4,
         Ending::Ran(Err(RunFault::Write)) => 4,
+        Ending::FileUnread => 4,
         Ending::NoCommand(CommandFault::Memory) => 3,
         Ending::NoCommand(CommandFault::NotUtf8) => 2,
         Ending::NoCommand(CommandFault::Line(_)) => 2,
@@ -46,6 +59,7 @@ pub fn message(ending: &Ending) -> &str
         Ending::Ran(Err(RunFault::Memory)) => "gtidrep: out of memory\n",
         Ending::Ran(Err(RunFault::Read)) => "gtidrep: reading standard input failed\n",
         Ending::Ran(Err(RunFault::Write)) => "gtidrep: writing failed\n",
+        Ending::FileUnread => "gtidrep: reading the file failed\n",
         Ending::NoCommand(CommandFault::Memory) => "gtidrep: out of memory\n",
         Ending::NoCommand(CommandFault::NotUtf8) =>
             "gtidrep: a word of the command line is not UTF-8\n",

@@ -80,6 +80,17 @@ Example:
 
 Status: 0 printed, 1 refused, 2 the command line, 3 memory, 4 reading or writing failed.";
 
+pub(crate) const EVENTS_EXAMPLE: &str =
+    "Reads the bytes of a binary log file of MySQL, or those of standard input where no file is named, and prints a line for each
+event: the offset at which it begins, its kind, its length, and what it says: a GTID, the set of those in earlier files, a
+table and the number of its rows, the text of a statement. All checksums and positions are tested; the line of the first
+fault, with its offset and a word, is the last one. The values of rows are not shown.
+
+Example:
+  gtidrep events east-bin.000001 | grep -A 9 aaaaaaaa-aaaa-aaaa-aaaa-aaaaaaaaaaaa:17
+
+Status: 0 all are listed, 1 refused, 2 the command line, 3 memory, 4 reading or writing failed.";
+
 pub(crate) const APPLY_EXAMPLE: &str =
     "Prints the executed set and the rows, or the line that answers why the bundle does not apply. `--by replica` does what a
 server does: workers share one replica, and --history shows on standard error what each of them did. `--by merge`, which is

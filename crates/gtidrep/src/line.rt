@@ -1,9 +1,9 @@
-ghost use Rattle.std.specs.Prelude.{◌≡◌, ℕ, ◌≤◌, IfOk, MatchOption};
-ghost use Rattle.gtidrep.specs.Line.{IsForOneToMost};
+ghost use Rattle.std.specs.Prelude.{◌≡◌, ℕ, ◌≤◌, IfOk, MatchOption, option_map};
+ghost use Rattle.gtidrep.specs.Line.{IsForOneToMost, file_of};
 
 use crate::help::{
-    APPLY_EXAMPLE, AUDIT_EXAMPLE, IMPORT_EXAMPLE, NO_HISTORY, POSITION_EXAMPLE, SET_EXAMPLE,
-    STATES_EXAMPLE, UPGRADE_EXAMPLE,
+    APPLY_EXAMPLE, AUDIT_EXAMPLE, EVENTS_EXAMPLE, IMPORT_EXAMPLE, NO_HISTORY, POSITION_EXAMPLE,
+    SET_EXAMPLE, STATES_EXAMPLE, UPGRADE_EXAMPLE,
 };
 use binlog_bundle::Grants;
 use clap::builder::ValueParser;
@@ -53,6 +53,10 @@ pub enum Command<'a> {
     Import {
         grants: Grants,
         is_explained: bool,
+    },
+    /// The events of a binary log are listed, of this file or from standard input.
+    Events {
+        file: Option<&'a str>,
     },
     /// The version of the program is asked for.
     Version,
@@ -236,6 +240,17 @@ fn import_command<'a>(alloc: Global) -> Result<clap::Command<'a>, AllocError> {
         ))
 }
 
+fn events_command<'a>(alloc: Global) -> Result<clap::Command<'a>, AllocError> {
+    clap::Command::new(alloc, "events")
+        .about("Lists the events of a binary log: events east-bin.000001")
+        .after_help(EVENTS_EXAMPLE)
+        .arg(
+            Arg::new(alloc, "file")
+                .action(ArgAction::Set)
+                .help("the binary log file; standard input where none is given"),
+        )
+}
+
 /// The ways to apply a bundle, by the words that name them.
 const WAYS: [&str; 2] = ["merge", "replica"];
 
@@ -293,6 +308,7 @@ fn all_commands<'a>(alloc: Global) -> Result<clap::Command<'a>, AllocError> {
     let program = with_command(program, upgrade_command(alloc))?;
     let program = program.subcommand(states_command(alloc))?;
     let program = with_command(program, import_command(alloc))?;
+    let program = with_command(program, events_command(alloc))?;
     with_command(program, apply_command(alloc))
 }
 
@@ -397,6 +413,11 @@ fn command_of<'a>(name: &str, matches: &ArgMatches<'a>) -> Option<Command<'a>>
     if name == "states" {
         return Some(Command::States);
     }
+    if name == "events" {
+        return Some(Command::Events {
+            file: matches.get_str("file"),
+        });
+    }
     if name == "import" {
         return Some(Command::Import {
             grants: grants_of(matches),
@@ -404,6 +425,16 @@ fn command_of<'a>(name: &str, matches: &ArgMatches<'a>) -> Option<Command<'a>>
         });
     }
     applying_of(matches)
+}
+
+/// The file that a command reads in the place of standard input, if its words name one.
+pub fn file_of<'a>(command: &Command<'a>) -> Option<&'a str>
+    ensures { option_map (λ f. f.now) result ≡ file_of command.now }
+{
+    match command {
+        Command::Events { file } => *file,
+        _ => None,
+    }
 }
 
 fn named_command<'a>(matches: &ArgMatches<'a>) -> Option<Command<'a>>

@@ -1,10 +1,10 @@
-//! The program `gtidrep`: the command line, and a command of crate `commands` over standard input and standard output.
+//! The program `gtidrep`: the command line, and a command of crate `commands` over standard input, or a file, and standard output.
 //!
 //!     set <function> <a> [<b>]               position --own <uuid> --ask <set> < journal
 //!     audit [--all | --explain | --ordered] < bundle
 //!     apply [--by merge|replica] [--history] [--ordered] [--workers N] < bundle
 //!     import [--bytes] [--without-foreign-keys] [--executed-unknown] [--explain] < bundle of logs
-//!     upgrade < bundle                       states < servers
+//!     upgrade < bundle                       states < servers          events [<file>] < binary log
 //!     --version
 //!
 //! Exit status: 0 done, 1 refused, 2 the command line, 3 out of memory, 4 reading or writing failed (`exit_status`). With 3 and 4 one
@@ -15,8 +15,8 @@
 //! What is written is proved in `commands`. Proved here: that each command's answer is written (`run_over`), the status and message for each
 //! end, and that a number of workers is 1 to 64 (`parse_line`).
 //!
-//! Not proved: which command the words name, for the kit's `clap` has no contract from which it would follow. That is tested by
-//! `tests/cases`.
+//! Not proved: which command the words name, for the kit's `clap` has no contract from which it would follow, and that the bytes which came
+//! are those of the file that the words name (what a file gives is in no contract). That is tested by `tests/cases`.
 #![tactic(auto)]
 
 ghost use Rattle.gtidrep.specs.Line.{IsForOneToMost};
@@ -26,12 +26,13 @@ mod help;
 mod line;
 mod running;
 
-use crate::ending::{Ending, exit_status, message};
-use crate::line::{Command, CommandFault, parse_line};
+use crate::ending::{Ending, exit_status, message, ran_over_file};
+use crate::line::{Command, CommandFault, file_of, parse_line};
 use crate::running::run_over;
 use commands::{Outcome, RunFault, StdSink, StdSource, Streams};
 use std::env;
-use std::io::{self, ErrorKind};
+use std::fs::File;
+use std::io::{self, ErrorKind, Read};
 use std::process::ExitCode;
 use std::sync::Wait;
 use std::thread::Threads;
@@ -50,23 +51,48 @@ fn read_words(rt: &HostRuntime) -> Result<Vec<String>, CommandFault> {
     }
 }
 
-/// Runs a command over standard input and standard output.
-fn run_command<T: Threads + Wait + Sync>(
+/// Runs a command over this reader and standard output.
+fn run_over_reader<R: Read + Send + Drop, T: Threads + Wait + Sync>(
     rt: &HostRuntime,
     threads: &T,
     command: Command,
+    reader: R,
 ) -> Result<Outcome, RunFault>
     requires { IsForOneToMost command }
 {
-    let mut streams = Streams::new(StdSource::new(rt.reader()), StdSink::new(io::writer(rt)));
+    let mut streams = Streams::new(StdSource::new(reader), StdSink::new(io::writer(rt)));
     let mut errors = StdSink::new(rt.stderr());
     run_over(threads, rt.alloc(), command, &mut streams, &mut errors)
+}
+
+/// The file of this name, or how the program ends without it: what opens a file may be refused memory.
+fn open_file(rt: &HostRuntime, name: &str) -> Result<File, Ending> {
+    match File::open(rt, name) {
+        Ok(file) => Ok(file),
+        Err(error) if error.kind() == ErrorKind::OutOfMemory => {
+            Err(Ending::Ran(Err(RunFault::Memory)))
+        }
+        Err(_) => Err(Ending::FileUnread),
+    }
+}
+
+/// Runs a command over the file that its words name, or else over standard input.
+fn run_command<T: Threads + Wait + Sync>(rt: &HostRuntime, threads: &T, command: Command) -> Ending
+    requires { IsForOneToMost command }
+{
+    let Some(name) = file_of(&command) else {
+        return Ending::Ran(run_over_reader(rt, threads, command, rt.reader()));
+    };
+    match open_file(rt, name) {
+        Ok(file) => ran_over_file(run_over_reader(rt, threads, command, file)),
+        Err(ending) => ending,
+    }
 }
 
 /// Runs the command that the words name.
 fn run<T: Threads + Wait + Sync>(rt: &HostRuntime, threads: &T, words: &[String]) -> Ending {
     match parse_line(rt.alloc(), words) {
-        Ok(command) => Ending::Ran(run_command(rt, threads, command)),
+        Ok(command) => run_command(rt, threads, command),
         Err(fault) => Ending::NoCommand(fault),
     }
 }

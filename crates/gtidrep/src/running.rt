@@ -5,8 +5,8 @@ ghost use Rattle.gtidrep.specs.Running.{doing_of, HasRun, HasNotRun};
 
 use crate::line::{Command, Listing};
 use commands::{
-    Outcome, RunFault, Sink, Source, Streams, apply_and_tell, apply_bundle, run_audit, run_explain,
-    run_import, run_list, run_position, run_set, run_states, run_upgrade, run_version,
+    Outcome, RunFault, Sink, Source, Streams, apply_and_tell, apply_bundle, run_audit, run_events,
+    run_explain, run_import, run_list, run_position, run_set, run_states, run_upgrade, run_version,
 };
 use serving::Order;
 use std::alloc::Global;
@@ -59,6 +59,7 @@ pub fn run_over<T: Threads + Wait + Sync, S: Source + Send, W: Sink, E: Sink>(
             grants,
             is_explained,
         } => run_import(alloc, grants, is_explained, streams, errors),
+        Command::Events { file: _ } => run_events(alloc, streams),
         Command::Version => run_version(alloc, streams),
         Command::Apply {
             way,

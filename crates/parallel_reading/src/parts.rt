@@ -2,6 +2,7 @@
 ghost use Rattle.std.specs.Prelude.{◌≡◌, ◌++◌, ◌<◌, IfOk, map, length, slice_index_or};
 ghost use Rattle.std.specs.List.{concat};
 
+use rows::Limits;
 use std::alloc::{AllocError, Global};
 use std::thread;
 use std::thread::Threads;
@@ -38,10 +39,11 @@ fn parts_of(alloc: Global, text: &[u8], size: usize) -> Result<Vec<&[u8]>, Alloc
     Ok(parts)
 }
 
-/// The lines of each part, parsed on a thread of its own if one can be started.
+/// The lines of each part, parsed by these limits on a thread of its own if one can be started.
 fn parse_all<'a, R: Threads + Sync>(
     rt: &R,
     alloc: Global,
+    limits: Limits,
     parts: &[&'a [u8]],
 ) -> Result<Vec<ParsedLines<'a>>, AllocError>
     ensures { IfOk result (λ parsed. parsed.items ≡ map (λ p. p.now) parts.now) }
@@ -53,14 +55,15 @@ fn parse_all<'a, R: Threads + Sync>(
         &|i: usize| -> ParsedLines<'_>
             requires { i < length parts.now }
             ensures { (d : _) → result ≡ (slice_index_or parts.entry.now i d).now }
-        { ParsedLines::parse(alloc, parts[i]) },
+        { ParsedLines::parse(alloc, limits, parts[i]) },
     )
 }
 
-/// The lines of a block, parsed in parts of `size` bytes.
+/// The lines of a block, parsed by these limits in parts of `size` bytes.
 pub fn parse_block<'a, R: Threads + Sync>(
     rt: &R,
     alloc: Global,
+    limits: Limits,
     block: &'a [u8],
     size: usize,
 ) -> Result<Vec<ParsedLines<'a>>, AllocError>
@@ -68,5 +71,5 @@ pub fn parse_block<'a, R: Threads + Sync>(
     ensures { IfOk result (λ parsed. concat parsed.items ≡ block.now) }
 {
     let parts = parts_of(alloc, block, size)?;
-    parse_all(rt, alloc, &parts)
+    parse_all(rt, alloc, limits, &parts)
 }

@@ -11,6 +11,7 @@ ghost use Rattle.txn_journal.specs.declared.lines.Due.TheVariants.{Any};
 ghost use Rattle.parallel_reading.specs.Coming.{HasCome};
 
 use crate::parts::{cut_block, parse_block};
+use rows::Limits;
 use std::alloc::{AllocError, Global};
 use std::thread::Threads;
 use std::{mem, thread};
@@ -63,7 +64,7 @@ fn take_block(
     }
 }
 
-/// Takes a block while the lines of the next one are parsed, in parts of `part` bytes.
+/// Takes a block while the lines of the next one are parsed by these limits, in parts of `part` bytes.
 fn take_and_parse<'a, R: Threads + Sync>(
     rt: &R,
     alloc: Global,
@@ -71,6 +72,7 @@ fn take_and_parse<'a, R: Threads + Sync>(
     block: &'a [u8],
     parsed: Result<Vec<ParsedLines<'a>>, AllocError>,
     next: &'a [u8],
+    limits: Limits,
     part: usize,
 ) -> (BundleReader, Result<Vec<ParsedLines<'a>>, AllocError>)
     requires block { IfOk parsed (λ parsed. concat parsed.items ≡ block.now) }
@@ -91,7 +93,7 @@ fn take_and_parse<'a, R: Threads + Sync>(
         || -> Result<Vec<ParsedLines<'_>>, AllocError>
             requires { IsSync R.row × (0 < part) }
             ensures { IfOk result (λ parsed. concat parsed.items ≡ next.entry.now) }
-        { parse_block(rt, alloc, next, part) },
+        { parse_block(rt, alloc, limits, next, part) },
     )
 }
 
@@ -106,14 +108,15 @@ fn fed_beside<R: Threads + Sync>(
     ensures { (bytes : List ℕ) → HasCome reader bytes → HasCome result (bytes ++ piece.now) }
 {
     let parsers = usize::from(workers).clamp(1, MOST_PARSERS);
+    let limits = reader.limits_ahead(piece);
     let mut reader = reader;
     let part = part_size(piece.len(), parsers);
     let (mut block, mut left) = cut_block(piece, part * parsers);
-    let mut parsed = parse_block(rt, alloc, block, part);
+    let mut parsed = parse_block(rt, alloc, limits, block, part);
     'reading: while !left.is_empty() {
         let part = part_size(left.len(), parsers);
         let (next, after) = cut_block(left, part * parsers);
-        let (taken, ahead) = take_and_parse(rt, alloc, reader, block, parsed, next, part);
+        let (taken, ahead) = take_and_parse(rt, alloc, reader, block, parsed, next, limits, part);
         reader = taken;
         parsed = ahead;
         block = next;

@@ -9,6 +9,7 @@ pub mod ImageLaws
 pub mod ImageSteps
 pub mod RowLaws
 pub mod Equal
+pub mod Passes
 mod FewDigits
 mod Ranks
 mod Lanes

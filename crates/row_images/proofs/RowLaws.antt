@@ -86,9 +86,10 @@ empty_with (b ∷ bs) same = empty_some (b ∷ bs) (length (values_in (b ∷ bs)
 pub word_at : (t : List ℕ) (k : ℕ) → values_text (values_in t) ≡ t → 0 < length t → slice_get (words_of t) k ≡ option_map value_text (slice_get (values_in t) k)
 word_at t k same some = ap (λ (ws : List (List ℕ)). slice_get ws k) (row_words t same some) ∙ slice_get-map value_text (values_in t) k
 
-pub no_word : (t : List ℕ) (k : ℕ) → length t ≡ 0 → None ≡ option_map value_text (slice_get (values_in t) k)
-no_word [] k none = ap (λ (vs : List Value). option_map value_text (slice_get vs k)) (sym none_in_nothing)
-no_word (b ∷ bs) k none = absurd (omega (arith, none))
+-- a text with a value at a place is not empty
+pub holds_one : (t : List ℕ) (k : ℕ) → k < length (values_in t) → 0 < length t
+holds_one [] k lt = let none = ap (λ (vs : List Value). length vs) none_in_nothing in absurd (omega (arith, lt, none))
+holds_one (b ∷ bs) k lt = omega arith
 
 -- a value and its word
 record There (vs : List Value) (k : ℕ) (w : List ℕ) : Type 0 where
@@ -114,7 +115,7 @@ none_mapped (Some v) e = absurd cc
 pub null_past : (vs : List Value) (k : ℕ) → None ≡ option_map value_text (slice_get vs k) → Null ≡ get_or vs k Null
 null_past vs k e = ap (λ (o : Option Value). unwrap_or o Null) (sym (none_mapped (slice_get vs k) e)) ∙ unwrap_or-slice_get vs k Null
 
-null_word : (v : Value) → FitsValue v → bytes_eq (value_text v) (codes "null") ≡ is_null v
+pub null_word : (v : Value) → FitsValue v → bytes_eq (value_text v) (codes "null") ≡ is_null v
 null_word Null fits = refl
 null_word (Int z) fits = false_from_ne_true _ (λ e. let k = sym (value_of-text (Int z) fits) ∙ ap value_of ((bytes_eq-Decides (value_text (Int z)) (codes "null")).0 e) in absurd cc)
 null_word (Bytes bs) fits = false_from_ne_true _ (λ e. let k = sym (value_of-text (Bytes bs) fits) ∙ ap value_of ((bytes_eq-Decides (value_text (Bytes bs)) (codes "null")).0 e) in absurd cc)

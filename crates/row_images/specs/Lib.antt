@@ -2,6 +2,7 @@ pub mod Words
 pub mod Parts
 pub mod Values
 pub mod Images
+pub mod OnePass
 pub mod Order
 pub mod Total
 pub mod Hashing

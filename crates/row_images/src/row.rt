@@ -1,11 +1,12 @@
 //! Images of rows, each kept as its text.
-ghost use Rattle.std.specs.Prelude.{◌≡◌, ◌==◌, ◌≤◌, ◌<◌, IfOk, IfSome, None, is_some, length, option_map, slice_get, slice_index_or};
+ghost use Rattle.std.specs.Prelude.{◌≡◌, ◌==◌, ◌≤◌, ◌<◌, IfOk, IfSome, None, is_some, length, map, option_map, slice_get, slice_index_or};
 ghost use Rattle.std.specs.List.{list_any};
 ghost use Rattle.std.specs.Ordering.{eq_by_cmp};
 ghost use Rattle.row_images.specs.Order.{value_cmp};
 ghost use Rattle.row_images.specs.declared.value.Value.TheVariants.{Null};
 ghost use Rattle.row_images.specs.Values.{value_text, is_null, is_longer, is_long_word};
 ghost use Rattle.row_images.specs.Images.{words_of, values_text, image_of, AreValues};
+ghost use Rattle.row_images.specs.OnePass.{words_left, behind_first, AreNulls, AreSame};
 
 use crate::first_value::{rest_from, value_len};
 use crate::image_text::ImageText;
@@ -136,6 +137,17 @@ fn word_in(text: &[u8], place: usize) -> Option<&[u8]>
     Some(cut(left).0)
 }
 
+/// The next of the words that are left, or that of null past the last, and what is left after it.
+fn next_word(left: Option<&[u8]>) -> (&[u8], Option<&[u8]>)
+    ensures word { result.0.now ≡ slice_index_or (words_left (option_map (λ t. t.now) left.entry)) 0 (value_text Null) }
+    ensures rest { words_left (option_map (λ t. t.now) result.1) ≡ behind_first (words_left (option_map (λ t. t.now) left.entry)) }
+{
+    match left {
+        Some(text) => cut(text),
+        None => (b"null".as_slice(), None),
+    }
+}
+
 impl Row {
     /// These values, in the order of the columns.
     pub fn new(values: Vec<Value>) -> Result<Row, AllocError>
@@ -193,11 +205,10 @@ impl Row {
     fn word_at(&self, column: usize) -> Option<&[u8]>
         ensures { option_map (λ word. word.now) result ≡ option_map value_text (slice_get self.now column) }
     {
-        let text = self.text.as_slice();
-        if text.is_empty() {
+        if column >= self.text.values() {
             return None;
         }
-        word_in(text, column)
+        word_in(self.text.as_slice(), column)
     }
 
     /// The word of the value in a column, or that of null past the last.
@@ -217,6 +228,64 @@ impl Row {
         self.keeps_rules();
         other.keeps_rules();
         *self.word_or_null_at(column) == *other.word_or_null_at(column)
+    }
+
+    /// What a pass over the words begins with: the text, if it has a word.
+    fn all_left(&self) -> Option<&[u8]>
+        ensures { words_left (option_map (λ t. t.now) result) ≡ map value_text self.now }
+    {
+        let text = self.text.as_slice();
+        if text.is_empty() {
+            return None;
+        }
+        Some(text)
+    }
+
+    /// All values, read in one pass.
+    pub fn values(&self, alloc: Global) -> Result<Vec<Value>, AllocError>
+        ensures { IfOk result (λ values. values.items ≡ self.now) }
+    {
+        self.keeps_rules();
+        let mut values = Vec::with_capacity(alloc, self.len())?;
+        let mut left = self.all_left();
+        for _read in 0..self.len() {
+            let (word, rest) = next_word(left);
+            let value = value_word(alloc, word)?;
+            values.push(value.unwrap_or(Value::Null))?;
+            left = rest;
+        }
+        Ok(values)
+    }
+
+    /// Marks the columns whose value is null or missing, from the first on, and no others, in one pass.
+    pub fn mark_nulls(&self, marks: &mut [bool])
+        ensures { AreNulls marks.new self.now }
+    {
+        self.keeps_rules();
+        let mut left = self.all_left();
+        for mark in marks.iter_mut() {
+            let (word, rest) = next_word(left);
+            *mark = *word == *b"null".as_slice();
+            left = rest;
+        }
+    }
+
+    /// Marks the columns in which both rows have the same value, from the first on, and no others, in one pass.
+    /// The value is null past the last. Only the words are compared.
+    pub fn mark_same(&self, other: &Row, marks: &mut [bool])
+        ensures { AreSame marks.new self.now other.now }
+    {
+        self.keeps_rules();
+        other.keeps_rules();
+        let mut left = self.all_left();
+        let mut other_left = other.all_left();
+        for mark in marks.iter_mut() {
+            let (word, rest) = next_word(left);
+            let (other_word, other_rest) = next_word(other_left);
+            *mark = *word == *other_word;
+            left = rest;
+            other_left = other_rest;
+        }
     }
 
     /// The value in a column, or null past the last.

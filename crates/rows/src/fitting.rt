@@ -9,6 +9,7 @@ ghost use Rattle.rows.specs.Database.{opening};
 ghost use Rattle.rows.specs.Fits.{has_primary_null, row_misfit, rank, first_cause, images_misfit, table_of, misfit_in, change_misfit, misfit};
 
 use crate::change::{Change, Misfit, NotInSchema, Transaction};
+use crate::many_columns::{FEW_COLUMNS, has_null_among};
 use crate::name::Name;
 use crate::schema::{Schema, Table};
 use row_images::Row;
@@ -120,5 +121,8 @@ fn row_misfit(table: &Table, row: &Row) -> Option<Misfit>
 pub fn has_null_at(columns: &[u32], row: &Row) -> bool
     ensures { result ≡ list_any (λ column. is_null (slice_index_or row.now column Null)) columns.now }
 {
+    if columns.len() > FEW_COLUMNS {
+        return has_null_among(columns, row);
+    }
     columns.iter().any(|column| row.is_null_at(*column))
 }

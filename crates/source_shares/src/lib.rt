@@ -13,14 +13,17 @@
 //! rows are parts of the rows of all is a law of `history` (`shares_are_parts`). Nothing is joined: `row_parts` lists the rows of all from
 //! the parts. A thread that can't be started leaves its work to the caller's.
 //!
-//! Not proved: speed, that shares are of one size, and that a thread runs.
+//! Not proved: speed, that shares are of one size, and that a thread runs. The thread that applies a share tells a gate when it begins and
+//! when it ends (`ShareGate`): so a test of `worked_gates` shows that two shares are applied at the same time.
 #![tactic(auto)]
 
 mod apart;
 mod applying;
 mod executing;
+mod gate;
 mod gathering;
 mod merging;
 mod sharing;
 
+pub use gate::{NoShareGate, ShareGate};
 pub use merging::{Merged, merge_by_shares};

@@ -14,6 +14,7 @@ ghost use Rattle.source_shares.specs.Shares.{AreApplied, IsApplied};
 use crate::apart::share_no_key_beside;
 use crate::applying::apply_share;
 use crate::executing::union_of;
+use crate::gate::ShareGate;
 use crate::gathering::all_parts;
 use crate::sharing::{count_changes, put_into_shares};
 use audit::{begin_in_order, keep_rules, list_agreeing};
@@ -32,14 +33,15 @@ pub struct Merged {
     pub parts: Vec<Rows>,
 }
 
-/// The rows of each share, which is applied on a thread of its own if one can be started.
-fn apply_shares<R: Threads + Sync>(
+/// The rows of each share, which is applied on a thread of its own if one can be started. The thread tells the gate.
+fn apply_shares<G: ShareGate + Sync, R: Threads + Sync>(
     rt: &R,
     alloc: Global,
     opening: &Rows,
     entries: &[&Entry],
     shares: &[(SourceId, usize)],
     count: usize,
+    gate: &G,
 ) -> Result<Vec<Option<Rows>>, AllocError>
     requires { AllFit opening.now.schema (map (λ e. e.now) entries.now) }
     ensures count { IfOk result (λ parts. length parts.items ≡ count) }
@@ -52,18 +54,24 @@ fn apply_shares<R: Threads + Sync>(
         &|share: usize| -> Option<Rows>
             requires { AllFit opening.now.schema (map (λ e. e.now) entries.now) }
             ensures { IsApplied opening.entry.now shares.entry.now (map (λ e. e.now) entries.entry.now) share result }
-        { apply_share(alloc, opening, entries, shares, share) },
+        {
+            gate.before_share(share);
+            let part = apply_share(alloc, opening, entries, shares, share);
+            gate.after_share(share);
+            part
+        },
     )
 }
 
 /// The rows of each share, if no two sources touch a key: threads find both at the same time.
-fn apply_apart<R: Threads + Sync>(
+fn apply_apart<G: ShareGate + Sync, R: Threads + Sync>(
     rt: &R,
     alloc: Global,
     opening: &Rows,
     entries: &[&Entry],
     shares: &[(SourceId, usize)],
     count: usize,
+    gate: &G,
 ) -> Option<Vec<Option<Rows>>>
     requires { AllFit opening.now.schema (map (λ e. e.now) entries.now) }
     ensures count { IfSome result (λ parts. length parts.items ≡ count) }
@@ -78,7 +86,7 @@ fn apply_apart<R: Threads + Sync>(
         { share_no_key_beside(rt, alloc, opening.schema(), entries) },
         ||
             requires { AllFit opening.now.schema (map (λ e. e.now) entries.now) }
-        { apply_shares(rt, alloc, opening, entries, shares, count) },
+        { apply_shares(rt, alloc, opening, entries, shares, count, gate) },
     );
     let Ok(true) = apart else {
         return None;
@@ -124,7 +132,7 @@ fn list_firsts<'a, R: Threads + Sync>(
 }
 
 /// The executed set of all journals, and the rows of each share, if no two sources touch a key: threads find both at the same time.
-fn apply_beside<R: Threads + Sync>(
+fn apply_beside<G: ShareGate + Sync, R: Threads + Sync>(
     rt: &R,
     alloc: Global,
     opened: &GtidSet,
@@ -133,6 +141,7 @@ fn apply_beside<R: Threads + Sync>(
     entries: &[&Entry],
     shares: &[(SourceId, usize)],
     count: usize,
+    gate: &G,
 ) -> (Option<GtidSet>, Option<Vec<Option<Rows>>>)
     requires { AllFit opening.now.schema (map (λ e. e.now) entries.now) }
     ensures executed { IfSome result.0 (λ known. known ≡ all_of opened.now journals.now) }
@@ -145,12 +154,12 @@ fn apply_beside<R: Threads + Sync>(
         || union_of(alloc, opened, journals),
         ||
             requires { AllFit opening.now.schema (map (λ e. e.now) entries.now) }
-        { apply_apart(rt, alloc, opening, entries, shares, count) },
+        { apply_apart(rt, alloc, opening, entries, shares, count, gate) },
     )
 }
 
 /// What `merge_by_shares` gives, if a pass over the journals lists what they bring: the list is empty at first.
-fn merge_listed<'a, R: Threads + Sync>(
+fn merge_listed<'a, G: ShareGate + Sync, R: Threads + Sync>(
     rt: &R,
     alloc: Global,
     list: &mut Vec<&'a Entry>,
@@ -158,6 +167,7 @@ fn merge_listed<'a, R: Threads + Sync>(
     rows: &Rows,
     journals: &'a [Journal],
     most: usize,
+    gate: &G,
 ) -> Option<Merged>
     requires empty { list.old.items ≡ [] }
     requires some { 0 < most }
@@ -178,7 +188,9 @@ fn merge_listed<'a, R: Threads + Sync>(
     let Ok(shares) = put_into_shares(alloc, &mut counts, count) else {
         return None;
     };
-    let (executed, found) = apply_beside(rt, alloc, opened, journals, rows, list, &shares, count);
+    let (executed, found) = apply_beside(
+        rt, alloc, opened, journals, rows, list, &shares, count, gate,
+    );
     let executed = executed?;
     let found = found?;
     let parts = all_parts(alloc, found)?;
@@ -188,18 +200,19 @@ fn merge_listed<'a, R: Threads + Sync>(
 /// The result of all journals together, if the audit of them is Sound and one pass over them shows that their keys are: the executed set of
 /// all of them, and the parts of its rows that shares of the sources have. At most `most` threads apply them. The schema takes each
 /// transaction beyond the opening set.
-pub fn merge_by_shares<R: Threads + Sync>(
+pub fn merge_by_shares<G: ShareGate + Sync, R: Threads + Sync>(
     rt: &R,
     alloc: Global,
     opened: &GtidSet,
     rows: &Rows,
     journals: &[Journal],
     most: usize,
+    gate: &G,
 ) -> Option<Merged>
     requires some { 0 < most }
     requires fitting { AllFit rows.now.schema (in_order (first_contents opened.now (all_entries journals.now))) }
     ensures { IfSome result (λ merged. AreMerged opened.now rows.now journals.now merged.executed merged.parts.items) }
 {
     let mut list = Vec::new(alloc);
-    merge_listed(rt, alloc, &mut list, opened, rows, journals, most)
+    merge_listed(rt, alloc, &mut list, opened, rows, journals, most, gate)
 }

@@ -224,7 +224,7 @@ module _ (whole : Bool) (due : Due) (version : Version) (is_due_version : takes 
     assume : has_references version ≡ true → is_due_in s.version s.part words.Assume ≡ true
     done : is_due_in s.version s.part words.Done ≡ true
     assumptions : (tables_end s).bundle.assumptions ≡ b.assumptions
-    assumes : (a : Assumption) → length b.assumptions < most_assumptions → may_assume b.opened b.start b.channels a ≡ true → own_put s (Assumes a) ≡ Ok (state parts.Assumptions [] (with_assumption b a) None s.draft)
+    assumes : (a : Assumption) → length b.assumptions < most_assumptions → may_assume b.opened b.start b.channels b.journals a ≡ true → own_put s (Assumes a) ≡ Ok (state parts.Assumptions [] (with_assumption b a) None s.draft)
     ends : own_put s Done ≡ Ok (ending b s.draft)
 
   -- where a channel may come too, the tables end here at the latest
@@ -245,7 +245,7 @@ module _ (whole : Bool) (due : Due) (version : Version) (is_due_version : takes 
     reference : has_references version ≡ true → is_due_in s.version s.part words.Reference ≡ true
     refers : (r : Reference) → length b.references < most_references → reference_to b.start.schema (reference_shape r) ≡ Ok r → own_put s (Refers (reference_shape r)) ≡ Ok (state parts.References [] (with_reference b r) None s.draft)
 
-  assumes_after : (s : BundleStanding) (b : BundleValue) (a : Assumption) → tables_end s ≡ record (tables_end s) { bundle = b } → length b.assumptions < most_assumptions → may_assume b.opened b.start b.channels a ≡ true
+  assumes_after : (s : BundleStanding) (b : BundleValue) (a : Assumption) → tables_end s ≡ record (tables_end s) { bundle = b } → length b.assumptions < most_assumptions → may_assume b.opened b.start b.channels b.journals a ≡ true
       → put_assumption (tables_end s) a ≡ Ok (record (tables_end s) { part = parts.Assumptions; bundle = with_assumption b a })
   unfolding put_assumption
   assumes_after s b a is room may = ap (λ (x : BundleStanding). put_assumption x a) is ∙ rw (lt-leb most_assumptions (length b.assumptions) room, may) refl
@@ -387,7 +387,7 @@ module _ (whole : Bool) (due : Due) (version : Version) (is_due_version : takes 
   abbrev with_assumptions : BundleValue → List Assumption → BundleValue
   with_assumptions b said = record b { assumptions = b.assumptions ++ said }
 
-  brings_assumptions : (s : BundleStanding) (b : BundleValue) (said : List Assumption) → Closing s b → length b.assumptions + length said ≤ most_assumptions → AreInOrder (limits_of version) b.opened b.start b.channels b.assumptions said → Brings Closing s (assumption_lines said) (with_assumptions b said)
+  brings_assumptions : (s : BundleStanding) (b : BundleValue) (said : List Assumption) → Closing s b → length b.assumptions + length said ≤ most_assumptions → AreInOrder (limits_of version) b.opened b.start b.channels b.journals b.assumptions said → Brings Closing s (assumption_lines said) (with_assumptions b said)
   brings_assumptions s b [] closing few order = record { last = s; is = subst (Closing s) (λ i. record b { assumptions = sym (append-nil b.assumptions) i }) closing; goes = goes_none s }
   brings_assumptions s b (a ∷ said) closing few order =
       let u = state parts.Assumptions [] (with_assumption b a) None s.draft in

@@ -117,11 +117,11 @@ brought_more limits tables [] [] c j h w = (w, tt)
 brought_more limits tables (d ∷ cs) (k ∷ js) c j h w = (h.0, brought_more limits tables cs js c j h.1 w)
 brought_more limits tables cs js c j h w = absurd h
 
-order_more : (limits : Limits) (opened : Gtids) (start : Database) (channels : List BundleChannel) (before said : List Assumption) (a : Assumption) → AreInOrder limits opened start channels before said → IsWide limits → FitsAssumption limits a → may_follow (last_of (before ++ said)) a ≡ true → may_assume opened start channels a ≡ true
-    → AreInOrder limits opened start channels before (said ++ a ∷ [])
-order_more limits opened start channels before [] a h wide fits follows may = (wide, fits, subst (λ (x : List Assumption). may_follow (last_of x) a ≡ true) (append-nil before) follows, may, tt)
-order_more limits opened start channels before (x ∷ said) a h wide fits follows may =
-    (h.0, h.1, h.2, h.3, order_more limits opened start channels (before ++ x ∷ []) said a h.4 wide fits (subst (λ (y : List Assumption). may_follow (last_of y) a ≡ true) (sym (append_assoc before (x ∷ []) said)) follows) may)
+order_more : (limits : Limits) (opened : Gtids) (start : Database) (channels : List BundleChannel) (journals : List JournalValue) (before said : List Assumption) (a : Assumption) → AreInOrder limits opened start channels journals before said → IsWide limits → FitsAssumption limits a → may_follow (last_of (before ++ said)) a ≡ true → may_assume opened start channels journals a ≡ true
+    → AreInOrder limits opened start channels journals before (said ++ a ∷ [])
+order_more limits opened start channels journals before [] a h wide fits follows may = (wide, fits, subst (λ (x : List Assumption). may_follow (last_of x) a ≡ true) (append-nil before) follows, may, tt)
+order_more limits opened start channels journals before (x ∷ said) a h wide fits follows may =
+    (h.0, h.1, h.2, h.3, order_more limits opened start channels journals (before ++ x ∷ []) said a h.4 wide fits (subst (λ (y : List Assumption). may_follow (last_of y) a ≡ true) (sym (append_assoc before (x ∷ []) said)) follows) may)
 
 pub channels_more : (version : Version) (tables : List Table) (cs : List BundleChannel) (all : List (List ℕ)) (js : List JournalValue) (c : BundleChannel) (stamps : List ℕ) (j : JournalValue) → AreBrought (limits_of version) tables cs js → length all ≡ length js
     → channels_lines version (cs ++ c ∷ []) (all ++ stamps ∷ []) (js ++ j ∷ []) ≡ channels_lines version cs all js ++ channel_lines version c stamps j
@@ -175,8 +175,8 @@ till due version rows b old f = record { whole = f.whole; lines = f.lines ∙ sy
 none_refer : (version : Version) (tables : List Table) → AreReferences (limits_of version) tables []
 none_refer version tables = record { few = omega arith; each = tt }
 
-pub none_assumed : (version : Version) (opened : Gtids) (start : Database) (channels : List BundleChannel) (said : List Assumption) → said ≡ [] → AreAssumptions (limits_of version) opened start channels said
-none_assumed version opened start channels said none = subst (AreAssumptions (limits_of version) opened start channels) (sym none) (record { few = omega arith; each = tt })
+pub none_assumed : (version : Version) (opened : Gtids) (start : Database) (channels : List BundleChannel) (journals : List JournalValue) (said : List Assumption) → said ≡ [] → AreAssumptions (limits_of version) opened start channels journals said
+none_assumed version opened start channels journals said none = subst (AreAssumptions (limits_of version) opened start channels journals) (sym none) (record { few = omega arith; each = tt })
 
 -- the tables as a bundle without rows and channels
 pub tables_written : (version : Version) (replica : ℕ) (opened : Gtids) (tables : List Table) → IsSource replica → IsOpeningSet version opened → AreAdded (limits_of version) [] tables → IsWrittenBundle version [] (bare replica opened tables)
@@ -189,7 +189,7 @@ tables_written version replica opened tables small is added = record {
   named = tt;
   few = omega arith;
   brought = tt;
-  assumed = none_assumed version opened (bare replica opened tables).start [] [] refl;
+  assumed = none_assumed version opened (bare replica opened tables).start [] [] [] refl;
 }
 
 pub tables_front : (version : Version) (replica : ℕ) (opened : Gtids) (tables : List Table) → tables_lines version replica opened tables ≡ front version [] (bare replica opened tables)
@@ -278,7 +278,7 @@ row_keeps_in due version tables rows b r channel draft old new f none fit writab
             named = w.named;
             few = w.few;
             brought = w.brought;
-            assumed = none_assumed version b.opened c.start b.channels b.assumptions none.assumptions;
+            assumed = none_assumed version b.opened c.start b.channels b.journals b.assumptions none.assumptions;
           };
         },
         record { channels = none.channels; journals = none.journals; assumptions = none.assumptions },
@@ -305,7 +305,7 @@ with_assumption b a = record b { assumptions = b.assumptions ++ a ∷ [] }
 
 -- one assumption more
 assumption_keeps_in : (due : Due) (version : Version) (tables : List Table) (rows : List TableRow) (b : BundleValue) (a : Assumption) (channel : Option BundleChannel) (draft : Standing) (old : List BundleLine) → Till due version rows b old → IsWide (limits_of version) → FitsAssumption (limits_of version) a → may_follow (last_of b.assumptions) a ≡ true
-    → length b.assumptions < most_assumptions → may_assume b.opened b.start b.channels a ≡ true → KeepsBundle due old (Own (Assumes a)) (state parts.Assumptions due version tables (with_assumption b a) channel draft)
+    → length b.assumptions < most_assumptions → may_assume b.opened b.start b.channels b.journals a ≡ true → KeepsBundle due old (Own (Assumes a)) (state parts.Assumptions due version tables (with_assumption b a) channel draft)
 assumption_keeps_in due version tables rows b a channel draft old f wide fits follows room may =
     let w = f.whole.written in
     let before = front version rows b in
@@ -326,7 +326,7 @@ assumption_keeps_in due version tables rows b a channel draft old f wide fits fo
           named = w.named;
           few = w.few;
           brought = w.brought;
-          assumed = record { few = omega (arith, room, length-append b.assumptions (a ∷ [])); each = order_more (limits_of version) b.opened b.start b.channels [] b.assumptions a w.assumed.each wide fits follows may };
+          assumed = record { few = omega (arith, room, length-append b.assumptions (a ∷ [])); each = order_more (limits_of version) b.opened b.start b.channels b.journals [] b.assumptions a w.assumed.each wide fits follows may };
         };
       };
     }
@@ -388,14 +388,14 @@ refers_there s line shape P k is added more =
 
 -- an assumption that may come, or why it may not
 assumes_there : (s : BundleStanding) (line : List ℕ) (a : Assumption) (P : BundleStanding → Type 0) → ParsesAsLine (own_wording s) line (Assumes a)
-    → (length (after_tables s).bundle.assumptions < most_assumptions → may_assume (after_tables s).bundle.opened (after_tables s).bundle.start (after_tables s).bundle.channels a ≡ true → P (record (after_tables s) { part = parts.Assumptions; bundle = with_assumption (after_tables s).bundle a }))
+    → (length (after_tables s).bundle.assumptions < most_assumptions → may_assume (after_tables s).bundle.opened (after_tables s).bundle.start (after_tables s).bundle.channels (after_tables s).bundle.journals a ≡ true → P (record (after_tables s) { part = parts.Assumptions; bundle = with_assumption (after_tables s).bundle a }))
     → MatchResult (own_put s (Assumes a)) P (HasCauseBy (own_wording s) line)
 unfolding own_put put_assumption
 assumes_there s line a P k more =
     let b = (after_tables s).bundle in
     let Caused = HasCauseBy (own_wording s) line in
     if_both P Caused (leb most_assumptions (length b.assumptions)) _ _ (λ full. (Assumes a, k, leb-true most_assumptions (length b.assumptions) full))
-    (λ room. if_both P Caused (may_assume b.opened b.start b.channels a) _ _ (λ may. more (leb-false most_assumptions (length b.assumptions) room) may)
+    (λ room. if_both P Caused (may_assume b.opened b.start b.channels b.journals a) _ _ (λ may. more (leb-false most_assumptions (length b.assumptions) room) may)
     (λ no. (Assumes a, k, λ full. (let m = sym (le-leb most_assumptions (length b.assumptions) full) ∙ room in cc), no)))
 
 table_cause : (s : BundleStanding) (line : List ℕ) (shape : Shape) → ParsesAsLine (own_wording s) line (Has shape) → (c : Cause) → TableErr (limits_of s.version) s.tables shape c → HasCauseBy (own_wording s) line c

@@ -64,7 +64,7 @@ channel_written version rows b c draft j w o written fitting = record {
   named = named_more (limits_of version) [] b.channels c w.named o.name o.new;
   few = omega (arith, o.room, length-append b.channels (c ∷ []));
   brought = brought_more (limits_of version) b.start.schema b.channels b.journals c j w.brought (record { written = written; fitting = fitting });
-  assumed = none_assumed version b.opened b.start (b.channels ++ c ∷ []) b.assumptions o.assumptions;
+  assumed = none_assumed version b.opened b.start (b.channels ++ c ∷ []) (b.journals ++ j ∷ []) b.assumptions o.assumptions;
 }
 
 -- its lines, with any numbers of the last journal

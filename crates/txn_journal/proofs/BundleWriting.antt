@@ -113,6 +113,10 @@ assumption_appended out a = line_behind out (assumption_text a)
 pub named_appended : (out word name : List ℕ) → (out ++ word) ++ name ≡ out ++ (word ++ name)
 named_appended out word name = append_assoc out word name
 
+-- a word, a name behind it, and spans
+pub part_appended : (out word name spans : List ℕ) → ((out ++ (word ++ name)) ++ codes " ") ++ spans ≡ out ++ (word ++ (name ++ 32 ∷ spans))
+part_appended out word name spans = simp append_assoc
+
 -- ---- channels
 
 channel_parts : (out name word : List ℕ) → ((out ++ codes "channel ") ++ name) ++ (word ++ 10 ∷ []) ≡ out ++ ((codes "channel" ++ 32 ∷ (name ++ word)) ++ 10 ∷ [])

@@ -48,7 +48,7 @@ use Rattle.txn_journal.proofs.ShapeWords.{shape_both, shape_again, shape_one, re
 use Rattle.txn_journal.specs.References.{reference_text, reference_behind}
 use Rattle.txn_journal.specs.Assumptions.{assumption_text, next_assumption, FitsAssumption, last_of, may_follow, name_behind, named_in, spans_behind, some_spans, part_behind, part_in, assumption_of, assumption_in}
 use Rattle.txn_journal.specs.declared.assumptions.Assumption.{Assumption}
-use Rattle.txn_journal.specs.declared.assumptions.Assumption.TheVariants.{Executed, Checksums, Opening, Ignored, References, Rows}
+use Rattle.txn_journal.specs.declared.assumptions.Assumption.TheVariants.{Executed, Checksums, Opening, Statements, Ignored, References, Rows}
 
 -- ---- the line of an assumption
 
@@ -91,10 +91,11 @@ says_both limits text =
     if_both _ _ (bytes_eq (first_word text) (codes "executed")) _ _ (λ e. named_both limits text (codes "executed") Executed (is_word (codes "executed") e) (λ name. refl) (λ name h. h))
     (λ no. if_both _ _ (bytes_eq (first_word text) (codes "checksums")) _ _ (λ e. named_both limits text (codes "checksums") Checksums (is_word (codes "checksums") e) (λ name. refl) (λ name h. h))
     (λ no. if_both _ _ (bytes_eq (first_word text) (codes "opening")) _ _ (λ e. parted_both limits text (codes "opening") Opening (is_word (codes "opening") e) (λ name spans. refl) (λ name spans n s. (n, s.0, s.1)))
+    (λ no. if_both _ _ (bytes_eq (first_word text) (codes "statements")) _ _ (λ e. parted_both limits text (codes "statements") Statements (is_word (codes "statements") e) (λ name spans. refl) (λ name spans n s. (n, s.0, s.1)))
     (λ no. if_both _ _ (bytes_eq (first_word text) (codes "ignored")) _ _ (λ e. named_both limits text (codes "ignored") Ignored (is_word (codes "ignored") e) (λ name. refl) (λ name h. h))
     (λ no. if_both _ _ (bytes_eq (first_word text) (codes "references")) _ _ (λ e. then_both _ _ (nothing_in (others text)) _ (nothing_both (others text)) (λ nothing none. (word_alone text none ∙ is_word (codes "references") e, tt)))
     (λ no. if_both _ _ (bytes_eq (first_word text) (codes "rows")) _ _ (λ e. then_both _ _ (nothing_in (others text)) _ (nothing_both (others text)) (λ nothing none. (word_alone text none ∙ is_word (codes "rows") e, tt)))
-    (λ no. tt))))))
+    (λ no. tt)))))))
 
 assumption_both : (limits : Limits) (rest : Option (List ℕ)) → MatchResult (assumption_in limits rest) (λ a. (rest ≡ Some (assumption_text a)) × FitsAssumption limits a) IsBody
 assumption_both limits None = tt
@@ -112,6 +113,9 @@ said_again limits (Checksums name) fits = rw fits refl
 said_again limits (Opening name []) fits = absurd (omega (arith, fits.2))
 said_again limits (Opening name (s ∷ ss)) fits =
     let spans : List Span = s ∷ ss in rw (others-front name (spans_word spans) (name_no_blank limits name fits.0), first_word-front name (spans_word spans) (name_no_blank limits name fits.0), fits.0, spans_again spans fits.1.merged fits.1.usable) refl
+said_again limits (Statements name []) fits = absurd (omega (arith, fits.2))
+said_again limits (Statements name (s ∷ ss)) fits =
+    let spans : List Span = s ∷ ss in rw (others-front name (spans_word spans) (name_no_blank limits name fits.0), first_word-front name (spans_word spans) (name_no_blank limits name fits.0), fits.0, spans_again spans fits.1.merged fits.1.usable) refl
 said_again limits (Ignored name) fits = rw fits refl
 said_again limits References fits = refl
 said_again limits Rows fits = refl
@@ -123,6 +127,7 @@ pub assumption_one : (limits : Limits) (a : Assumption) → FitsAssumption limit
 assumption_one limits (Executed name) fits = name_no_feed limits name fits
 assumption_one limits (Checksums name) fits = name_no_feed limits name fits
 assumption_one limits (Opening name spans) fits = joins (λ b. not (eqb b 10)) name (32 ∷ spans_word spans) (name_no_feed limits name fits.0) (spans_word_lacks 10 spans set_no_feed refl fits.1.usable)
+assumption_one limits (Statements name spans) fits = joins (λ b. not (eqb b 10)) name (32 ∷ spans_word spans) (name_no_feed limits name fits.0) (spans_word_lacks 10 spans set_no_feed refl fits.1.usable)
 assumption_one limits (Ignored name) fits = name_no_feed limits name fits
 assumption_one limits References fits = refl
 assumption_one limits Rows fits = refl

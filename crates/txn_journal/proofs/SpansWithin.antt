@@ -1,19 +1,25 @@
 -- Whether spans are in a set, one after another.
-use Rattle.std.proofs.Common.{◌≡◌, ℕ, ◌+◌, ◌≤◌, eqb-true, Bool, true, false, List, ◌∷◌, refl, sym, ap, subst, ◌∙◌, arith}
-use Rattle.std.specs.Prelude.{◌||◌, ◌&&◌, ◌==◌, nat_le}
+use Rattle.std.proofs.Common.{◌≡◌, ℕ, ◌+◌, ◌≤◌, ◌<◌, inl, inr, eqb-true, Bool, true, false, cond, List, [], ◌∷◌, ◌++◌, map, refl, sym, ap, subst, ◌∙◌, arith}
+use Rattle.std.specs.Prelude.{◌||◌, ◌&&◌, ◌==◌, nat_le, nat_lt}
+use Rattle.std.specs.BTreeSet.{BTreeSet, contains, Updates}
+use Rattle.std.specs.Ordering.{eq_by_cmp, is_eq}
 use Rattle.std.specs.FinSet as set
 use Rattle.std.specs.List.{list_all}
+use Rattle.std.proofs.lemmas.List.{map_push}
 use Rattle.gtid_text.specs.declared.Gtid.{Gtid}
 use Rattle.gtid_text.specs.declared.Span.{Span}
 use Rattle.gtid_text.specs.Gtids.{gtid_cmp}
 use Rattle.gtid_set.specs.Sets.{Gtids, IsRunEnd, covers, gtid, interval}
-use Rattle.gtid_set.specs.Spans.{set_of, is_before, is_merged}
+use Rattle.gtid_set.specs.Spans.{set_of}
+use Rattle.journal.specs.declared.Entry.{Entry}
+use Rattle.journal.specs.Journals.{gtids_of}
+use Rattle.txn_journal.specs.Assumptions.{has_span}
 use Rattle.gtid_set.proofs.SetLemmas.{contains-interval}
 use Rattle.std.proofs.lemmas.Bool.{and_parts, false_from_ne_true, and_from, and_right, or_left, or_right}
 use Rattle.std.proofs.lemmas.Bool.Decides.{nat_tests}
-use Rattle.lemmas.proofs.Tests.{same_bool}
-use Rattle.lemmas.proofs.SameGtid.{gtid_total}
-use Rattle.lemmas.proofs.Numbers.{le_of_test}
+use Rattle.lemmas.proofs.Tests.{same_bool, cond_or}
+use Rattle.lemmas.proofs.SameGtid.{gtid_total, gtid_exact}
+use Rattle.lemmas.proofs.Numbers.{le_of_test, lt_of_test, ge_of_test, lt_cases}
 
 within_first : (a b c : Gtids) → set.is_subset (set.union a b) c ≡ true → set.is_subset a c ≡ true
 within_first a b c e = set.contains-is_subset gtid_total a c (λ q here. set.is_subset-contains gtid_total (set.union a b) c e q (set.contains-union gtid_total a b q ∙ or_left (set.contains a q) (set.contains b q) here))
@@ -38,17 +44,16 @@ within_union a b c =
 pub none_left : (whole : Gtids) → set.is_subset set.empty whole ≡ true
 none_left whole = set.contains-is_subset gtid_total set.empty whole (λ q here. let none = set.contains-empty gtid_cmp q in absurd cc)
 
-first_and : (a b : Bool) → b ≡ true → (a && b) ≡ a
-first_and true b e = e
-first_and false b e = refl
+turn : (a b : Bool) → (a && b) ≡ (b && a)
+turn a b = grind arith
 
--- the first of these intervals is there
-pub next_within : (s : Span) (ss : List Span) (whole : Gtids) (all : Bool) → true ≡ set.is_subset (interval s.source s.lo s.hi) whole → set.is_subset (set_of (s ∷ ss)) whole ≡ all → set.is_subset (set_of ss) whole ≡ all
-next_within s ss whole all here e = sym (first_and (set.is_subset (set_of ss) whole) _ (sym here)) ∙ sym (within_union (set_of ss) (interval s.source s.lo s.hi) whole) ∙ e
-
--- it is not
-pub not_within : (s : Span) (ss : List Span) (whole : Gtids) (all : Bool) → false ≡ set.is_subset (interval s.source s.lo s.hi) whole → set.is_subset (set_of (s ∷ ss)) whole ≡ all → false ≡ all
-not_within s ss whole all here e = sym (and_right (set.is_subset (set_of ss) whole) _ (sym here)) ∙ sym (within_union (set_of ss) (interval s.source s.lo s.hi) whole) ∙ e
+-- spans are there if each of them is
+pub each_within : (whole : Gtids) (ss : List Span) → list_all (has_span whole) ss ≡ set.is_subset (set_of ss) whole
+each_within whole [] = sym (none_left whole)
+each_within whole (s ∷ ss) =
+    ap (λ (b : Bool). has_span whole s && b) (each_within whole ss)
+    ∙ turn (has_span whole s) (set.is_subset (set_of ss) whole)
+    ∙ sym (within_union (set_of ss) (interval s.source s.lo s.hi) whole)
 
 above : (a b : ℕ) → nat_le a b ≡ false → b + 1 ≤ a
 above a b e = grind (arith, nat_tests)
@@ -56,36 +61,73 @@ above a b e = grind (arith, nat_tests)
 covered : (source lo hi n : ℕ) → lo ≤ n → n ≤ hi → covers source lo hi (gtid source n) ≡ true
 covered source lo hi n a b = grind (arith, nat_tests)
 
--- an interval that a run reaches over is there
-in_run : (whole : Gtids) (source lo hi last : ℕ) → IsRunEnd whole source lo last → hi ≤ last → set.is_subset (interval source lo hi) whole ≡ true
-in_run whole source lo hi last run reach = set.contains-is_subset gtid_total (interval source lo hi) whole (λ q here. by q (sym (contains-interval source lo hi q) ∙ here))
+-- an interval is there if all its numbers are
+pub all_within : (whole : Gtids) (source lo hi : ℕ) → ((n : ℕ) → lo ≤ n → n ≤ hi → set.contains whole (gtid source n) ≡ true) → set.is_subset (interval source lo hi) whole ≡ true
+all_within whole source lo hi all = set.contains-is_subset gtid_total (interval source lo hi) whole (λ q here. by q (sym (contains-interval source lo hi q) ∙ here))
   where
     by : (q : Gtid) → covers source lo hi q ≡ true → set.contains whole q ≡ true
     by q e =
         let parts = and_parts (q.source == source) (nat_le lo q.number && nat_le q.number hi) e in
         let bounds = and_parts (nat_le lo q.number) (nat_le q.number hi) parts.1 in
-        let from : lo ≤ q.number = le_of_test lo q.number bounds.0 in
-        let near : q.number ≤ hi = le_of_test q.number hi bounds.1 in
-        let below : q.number ≤ last = omega (arith, near, reach) in
-        subst (λ (n : ℕ). set.contains whole (gtid n q.number) ≡ true) (sym (eqb-true q.source source parts.0)) (run.all q.number from below)
+        subst (λ (n : ℕ). set.contains whole (gtid n q.number) ≡ true) (sym (eqb-true q.source source parts.0)) (all q.number (le_of_test lo q.number bounds.0) (le_of_test q.number hi bounds.1))
 
 -- one of which a number is missing is not
-missing : (whole : Gtids) (source lo hi n : ℕ) → lo ≤ n → n ≤ hi → set.contains whole (gtid source n) ≡ false → set.is_subset (interval source lo hi) whole ≡ false
+pub missing : (whole : Gtids) (source lo hi n : ℕ) → lo ≤ n → n ≤ hi → set.contains whole (gtid source n) ≡ false → set.is_subset (interval source lo hi) whole ≡ false
 missing whole source lo hi n a b none =
     false_from_ne_true _ (λ e.
     let there = set.is_subset-contains gtid_total (interval source lo hi) whole e (gtid source n) (contains-interval source lo hi (gtid source n) ∙ covered source lo hi n a b) in
     cc)
 
-pub run_within : (whole : Gtids) (source lo hi last : ℕ) (b : Bool) → IsRunEnd whole source lo last → b ≡ nat_le hi last → lo ≤ hi → b ≡ set.is_subset (interval source lo hi) whole
-run_within whole source lo hi last true run e filled = sym (in_run whole source lo hi last run (le_of_test hi last (sym e)))
-run_within whole source lo hi last false run e filled =
+-- as a run of numbers says
+pub run_within : (whole : Gtids) (source lo hi last : ℕ) (b : Bool) → IsRunEnd whole source lo last → b ≡ nat_le hi last → b ≡ set.is_subset (interval source lo hi) whole
+run_within whole source lo hi last true run e =
+    let reach = le_of_test hi last (sym e) in
+    sym (all_within whole source lo hi (λ n from near. run.all n from (omega (arith, near, reach))))
+run_within whole source lo hi last false run e =
     let reaches = run.reaches in
     let past : last + 1 ≤ hi = above hi last (sym e) in
     sym (missing whole source lo hi (last + 1) (omega (arith, reaches)) past run.ended)
 
-pub none_within : (whole : Gtids) (source lo hi : ℕ) → set.contains whole (gtid source lo) ≡ false → lo ≤ hi → false ≡ set.is_subset (interval source lo hi) whole
-none_within whole source lo hi none filled = sym (missing whole source lo hi lo (omega arith) filled none)
+-- or that the first number is missing
+pub none_within : (whole : Gtids) (source lo hi : ℕ) (b : Bool) → set.contains whole (gtid source lo) ≡ false → b ≡ nat_lt hi lo → b ≡ set.is_subset (interval source lo hi) whole
+none_within whole source lo hi true none e =
+    let turned = lt_of_test hi lo (sym e) in
+    sym (all_within whole source lo hi (λ n from near. absurd (omega (arith, turned, from, near))))
+none_within whole source lo hi false none e = sym (missing whole source lo hi lo (omega arith) (ge_of_test hi lo (sym e)) none)
 
--- the other spans are merged too
-pub merged_others : (s : Span) (ss : List Span) → is_merged (s ∷ ss) ≡ true → is_merged ss ≡ true
-merged_others s ss merged = (and_parts (list_all (is_before s) ss) (is_merged ss) (and_parts (nat_le s.lo s.hi) (list_all (is_before s) ss && is_merged ss) merged).1).1
+-- ---- GTIDs one by one
+
+turned : (g h : Gtid) → is_eq (gtid_cmp g h) ≡ eq_by_cmp gtid_cmp h g
+turned g h = grind (arith, nat_tests)
+
+-- one GTID more
+pub known_more : (old new : BTreeSet Gtid) (g : Gtid) (whole : Gtids) → set.from_list old.keys ≡ whole → Updates gtid_cmp old new g true → set.from_list new.keys ≡ set.insert whole g
+known_more old new g whole is updates = set.same_set gtid_total gtid_exact _ _ (λ q.
+    set.contains-from_list gtid_total new.keys q
+    ∙ updates.0 q
+    ∙ ap (λ (b : Bool). cond b true (contains gtid_cmp old q)) (turned g q)
+    ∙ cond_or (eq_by_cmp gtid_cmp q g) (contains gtid_cmp old q)
+    ∙ ap (λ (b : Bool). eq_by_cmp gtid_cmp q g || b) (sym (set.contains-from_list gtid_total old.keys q) ∙ ap (λ (s : Gtids). set.contains s q) is)
+    ∙ sym (set.contains-insert gtid_total whole g q))
+
+pub one_entry_more : (es : List Entry) (e : Entry) → gtids_of (es ++ e ∷ []) ≡ set.insert (gtids_of es) e.gtid
+one_entry_more es e = ap set.from_list (map_push (λ (x : Entry). x.gtid) es e) ∙ set.from_list_push gtid_total gtid_exact (map (λ (x : Entry). x.gtid) es) e.gtid
+
+number_there : (known : BTreeSet Gtid) (g : Gtid) (b : Bool) → contains gtid_cmp known g ≡ b → set.contains (set.from_list {R = gtid_cmp} known.keys) g ≡ b
+number_there known g b e = set.contains-from_list gtid_total known.keys g ∙ e
+
+-- the numbers of a span before one are there
+abbrev pub AreThere : BTreeSet Gtid → Span → ℕ → Type 0
+AreThere known s next = (n : ℕ) → s.lo ≤ n → n < next → set.contains (set.from_list {R = gtid_cmp} known.keys) (gtid s.source n) ≡ true
+
+pub number_missing : (known : BTreeSet Gtid) (s : Span) (n : ℕ) → s.lo ≤ n → n ≤ s.hi → contains gtid_cmp known (gtid s.source n) ≡ false → has_span (set.from_list known.keys) s ≡ false
+number_missing known s n from near none = missing (set.from_list known.keys) s.source s.lo s.hi n from near (number_there known (gtid s.source n) false none)
+
+pub next_there : (known : BTreeSet Gtid) (s : Span) (next : ℕ) → AreThere known s next → contains gtid_cmp known (gtid s.source next) ≡ true → AreThere known s (next + 1)
+next_there known s next there here n from below = elim (lt_cases n next below) [
+  | inl before ↦ there n from before
+  | inr last ↦ subst (λ (m : ℕ). set.contains (set.from_list {R = gtid_cmp} known.keys) (gtid s.source m) ≡ true) (sym last) (number_there known (gtid s.source next) true here)
+]
+
+pub all_there : (known : BTreeSet Gtid) (s : Span) (next : ℕ) → AreThere known s next → s.hi < next → has_span (set.from_list known.keys) s ≡ true
+all_there known s next there past = all_within (set.from_list known.keys) s.source s.lo s.hi (λ n from near. there n from (omega (arith, near, past)))

@@ -285,9 +285,9 @@ references_wide : (ts : List Table) (rs : List Reference) → AreReferences Narr
 references_wide ts [] h = record { few = h.few; each = tt }
 references_wide ts (r ∷ rs) h = absurd h.each.0.wide
 
-assumed_wide : (opened : Gtids) (start wide : Database) (cs : List BundleChannel) (said : List Assumption) → AreAssumptions Narrow opened start cs said → AreAssumptions Wide opened wide cs said
-assumed_wide opened start wide cs [] h = record { few = h.few; each = tt }
-assumed_wide opened start wide cs (a ∷ said) h = absurd h.each.0
+assumed_wide : (opened : Gtids) (start wide : Database) (cs : List BundleChannel) (js : List JournalValue) (said : List Assumption) → AreAssumptions Narrow opened start cs js said → AreAssumptions Wide opened wide cs js said
+assumed_wide opened start wide cs js [] h = record { few = h.few; each = tt }
+assumed_wide opened start wide cs js (a ∷ said) h = absurd h.each.0
 
 pub bundle_wide : (rows : List TableRow) (b : BundleValue) → IsWrittenBundle Two rows b → IsWrittenBundle Three rows (widened b)
 bundle_wide rows b w = record {
@@ -299,7 +299,7 @@ bundle_wide rows b w = record {
   named = named_wide [] b.channels w.named;
   few = w.few;
   brought = brought_wide b.start.schema b.channels b.journals w.brought;
-  assumed = assumed_wide b.opened b.start (widened b).start b.channels b.assumptions w.assumed;
+  assumed = assumed_wide b.opened b.start (widened b).start b.channels b.journals b.assumptions w.assumed;
 }
 
 -- ---- its text

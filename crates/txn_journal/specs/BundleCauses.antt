@@ -118,7 +118,7 @@ Clashes s (Has shape) = HasNoPlace (limits_of s.version) s.tables shape
 Clashes s (Refers shape) = RefersWrongly (limits_of s.version) (after_tables s).bundle.start.schema shape
 Clashes s (Puts r) = (rows : Rows) → with_opening (after_tables s).bundle.start r ≡ Ok rows → ⊥
 Clashes s (Opens c) = has_channel s.bundle.channels c.name ≡ true
-Clashes s (Assumes a) = may_assume (after_tables s).bundle.opened (after_tables s).bundle.start (after_tables s).bundle.channels a ≡ false
+Clashes s (Assumes a) = may_assume (after_tables s).bundle.opened (after_tables s).bundle.start (after_tables s).bundle.channels (after_tables s).bundle.journals a ≡ false
 Clashes s _ = ⊥
 
 -- the lines of the bundle's own that may come next; no GTID is in them

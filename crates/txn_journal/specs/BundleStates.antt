@@ -248,7 +248,7 @@ channel_line s rest = do
 unfoldable pub put_assumption : BundleStanding → Assumption → Result BundleStanding Cause
 put_assumption s a =
     if nat_le most_assumptions (length s.bundle.assumptions) then Err causes.Limit
-    else if may_assume s.bundle.opened s.bundle.start s.bundle.channels a
+    else if may_assume s.bundle.opened s.bundle.start s.bundle.channels s.bundle.journals a
     then Ok (record s { part = parts.Assumptions; bundle = record s.bundle { assumptions = s.bundle.assumptions ++ a ∷ [] } })
     else Err causes.Schema
 

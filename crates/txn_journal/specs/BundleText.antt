@@ -190,7 +190,7 @@ pub record IsWrittenBundle (version : Version) (rows : List TableRow) (b : Bundl
   pub named : AreNamed (limits_of version) [] b.channels
   pub few : length b.channels ≤ 256
   pub brought : AreBrought (limits_of version) b.start.schema b.channels b.journals
-  pub assumed : AreAssumptions (limits_of version) b.opened b.start b.channels b.assumptions
+  pub assumed : AreAssumptions (limits_of version) b.opened b.start b.channels b.journals b.assumptions
 
 -- this version can write it, with its rows in listed order
 abbrev pub IsWritableBy : Version → BundleValue → Type 0

@@ -1,16 +1,18 @@
 //! Assumptions: what a verdict rests on that the bundle doesn't show.
-ghost use Rattle.std.specs.Prelude.{◌≡◌, ◌==◌, ◌++◌, length, option_map, OnOk, IfOk};
+ghost use Rattle.std.specs.Prelude.{◌≡◌, ◌==◌, ◌∷◌, ◌++◌, length, option_map, OnOk, IfOk};
 ghost use Rattle.rows.specs.Listing.{rows_listed};
 ghost use Rattle.std.specs.String.{string_bytes};
 ghost use Rattle.txn_journal.specs.Stream.{Finds};
-ghost use Rattle.txn_journal.specs.Assumptions.{named, rank, assumption_text, comes_before, last_of, may_follow, has_channel, may_assume, name_behind, part_in, assumption_of, assumption_in};
-ghost use Rattle.txn_journal.specs.declared.assumptions.Assumption.TheVariants.{Opening};
+ghost use Rattle.txn_journal.specs.WrittenSets.{spans_word};
+ghost use Rattle.txn_journal.specs.Assumptions.{named, rank, assumption_text, comes_before, last_of, may_follow, has_channel, may_assume, name_behind, part_behind, assumption_of, assumption_in};
 
 use crate::bundle::BundleChannel;
 use crate::fault::{Cause, LineFault};
 use crate::names::Names;
 use crate::spans::{SpanList, spans_in, write_spans_word};
+use crate::statements::has_entries;
 use gtid_set::GtidSet;
+use journal::Journal;
 use row_images::cut;
 use rows::{Limits, Name, Rows};
 use std::alloc::{AllocError, Global};
@@ -28,6 +30,8 @@ pub enum Assumption {
     /// The server of this channel hasn't executed this part of the opening set: whether that part conflicts with its transactions can't be
     /// seen where the rows aren't known.
     Opening(Name, SpanList),
+    /// The statements of these transactions of the channel change no row of the tables, and stop no replica.
+    Statements(Name, SpanList),
     /// Changes of this table, or of all of this database, were left out.
     Ignored(Name),
     /// Foreign keys aren't looked at.
@@ -45,6 +49,7 @@ impl Assumption {
             Assumption::Executed(_) => 0,
             Assumption::Checksums(_) => 1,
             Assumption::Opening(_, _) => 2,
+            Assumption::Statements(_, _) => 3,
             Assumption::Ignored(_) => 4,
             Assumption::References => 5,
             Assumption::Rows => 6,
@@ -59,6 +64,7 @@ impl Assumption {
             Assumption::Executed(name)
             | Assumption::Checksums(name)
             | Assumption::Opening(name, _)
+            | Assumption::Statements(name, _)
             | Assumption::Ignored(name) => name.as_str().as_bytes(),
             Assumption::References | Assumption::Rows => &[],
         }
@@ -79,11 +85,13 @@ impl Assumption {
         match self {
             Assumption::Executed(channel) => write_named(out, "executed ", channel),
             Assumption::Checksums(channel) => write_named(out, "checksums ", channel),
-            Assumption::Opening(channel, spans) => {
-                write_named(out, "opening ", channel)?;
-                out.push_str(" ")?;
-                write_spans_word(out, spans.as_slice())
-            }
+            Assumption::Opening(channel, spans) => write_part(out, "opening ", channel, spans),
+            Assumption::Statements(channel, spans) => write_part(
+                out,
+                "statements ",
+                channel,
+                spans,
+            ),
             Assumption::Ignored(table) => write_named(out, "ignored ", table),
             Assumption::References => out.push_str("references"),
             Assumption::Rows => out.push_str("rows"),
@@ -98,6 +106,16 @@ fn write_named(out: &mut String, word: &str, name: &Name) -> Result<(), AllocErr
 {
     out.push_str(word)?;
     out.push_str(name.as_str())
+}
+
+/// Appends a word, a name and spans.
+#[tactic(auto, using(crate::proofs::BundleWriting::part_appended))]
+fn write_part(out: &mut String, word: &str, name: &Name, spans: &SpanList) -> Result<(), AllocError>
+    ensures { OnOk result (string_bytes out.new ≡ string_bytes out.old ++ (word.now ++ (name.now ++ 32 ∷ spans_word spans.now))) }
+{
+    write_named(out, word, name)?;
+    out.push_str(" ")?;
+    write_spans_word(out, spans.as_slice())
 }
 
 /// Whether an assumption may follow these.
@@ -125,16 +143,17 @@ fn is_without_rows(alloc: Global, rows: &Rows) -> Result<bool, AllocError>
     Ok(list.is_empty())
 }
 
-/// Whether the channel that an assumption names is there, or the table that it names is not; or, of rows that aren't known, whether there
-/// is none.
+/// Whether what an assumption names is there: a channel, a part of the opening set, or entries of a channel; or whether it isn't: a table,
+/// or, of rows that aren't known, a row. GTIDs of entries take as many steps as the channel has entries, times its binary digits.
 pub fn may_assume(
     alloc: Global,
     opened: &GtidSet,
     rows: &Rows,
     channels: &[BundleChannel],
+    journals: &[Journal],
     assumption: &Assumption,
 ) -> Result<bool, AllocError>
-    ensures { IfOk result (λ may. may ≡ may_assume opened.now rows.now channels.now assumption.now) }
+    ensures { IfOk result (λ may. may ≡ may_assume opened.now rows.now channels.now journals.now assumption.now) }
 {
     match assumption {
         Assumption::Executed(channel) | Assumption::Checksums(channel) => Ok(has_channel(
@@ -143,6 +162,9 @@ pub fn may_assume(
         Assumption::Opening(channel, spans) => Ok(
             has_channel(channels, channel) && spans.are_in(opened),
         ),
+        Assumption::Statements(channel, spans) => {
+            has_entries(alloc, channels, journals, channel, spans.as_slice())
+        }
         Assumption::Ignored(table) => Ok(rows.schema().find(table).is_none()),
         Assumption::References => Ok(true),
         Assumption::Rows => is_without_rows(alloc, rows),
@@ -167,14 +189,14 @@ fn name_in(
     }
 }
 
-/// What a channel's server hasn't executed of the opening set.
-fn opening_in(
+/// A name, and spans, one or more.
+fn part_in(
     alloc: Global,
     limits: Limits,
     names: &mut Names,
     rest: Option<&[u8]>,
-) -> Result<Assumption, LineFault>
-    ensures { Finds (λ a. a) result (part_in limits Opening (option_map (λ r. r.now) rest.entry)) }
+) -> Result<(Name, SpanList), LineFault>
+    ensures { Finds (λ part. part) result (part_behind limits (option_map (λ r. r.now) rest.entry)) }
 {
     let Some(text) = rest else {
         return Err(LineFault::Wrong(Cause::Body));
@@ -182,7 +204,7 @@ fn opening_in(
     let (word, more) = cut(text);
     let channel = name_in(alloc, limits, names, Some(word))?;
     let spans = spans_in(alloc, more)?;
-    Ok(Assumption::Opening(channel, spans))
+    Ok((channel, spans))
 }
 
 /// The assumption of a word and what follows it.
@@ -201,7 +223,11 @@ fn assumption_of(
     } else if word == b"checksums".as_slice() {
         Ok(Assumption::Checksums(name_in(alloc, limits, names, rest)?))
     } else if word == b"opening".as_slice() {
-        opening_in(alloc, limits, names, rest)
+        let (channel, spans) = part_in(alloc, limits, names, rest)?;
+        Ok(Assumption::Opening(channel, spans))
+    } else if word == b"statements".as_slice() {
+        let (channel, spans) = part_in(alloc, limits, names, rest)?;
+        Ok(Assumption::Statements(channel, spans))
     } else if word == b"ignored".as_slice() {
         Ok(Assumption::Ignored(name_in(alloc, limits, names, rest)?))
     } else if word == b"references".as_slice() && rest.is_none() {

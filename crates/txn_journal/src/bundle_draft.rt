@@ -4,7 +4,6 @@ ghost use Rattle.txn_journal.specs.Stream.{Finds};
 ghost use Rattle.txn_journal.specs.Writers.{AreWriters};
 ghost use Rattle.txn_journal.specs.BundleStates.{word_of, replica_in, preserve_in, channel_in, is_word_of};
 ghost use Rattle.txn_journal.specs.Referred.{reference_words_shape};
-ghost use Rattle.rows.specs.declared.limits.Limits.TheVariants.{Narrow};
 
 use crate::assumptions::{
     Assumption, MAX_ASSUMPTIONS, assumption_in, has_channel, may_assume, may_follow,
@@ -221,6 +220,7 @@ impl BundleDraft {
     ghost use Rattle.txn_journal.specs.Machine.{is_within, IsInEntry};
     ghost use Rattle.txn_journal.specs.Drafts.{standing};
     ghost use Rattle.txn_journal.specs.Stamps.{right_stamp};
+    ghost use Rattle.txn_journal.specs.Versions.{limits_of};
     ghost use Rattle.txn_journal.specs.declared.lines.LinePlace.TheVariants.{Within};
     ghost use Rattle.txn_journal.specs.declared.bundle_draft.Word.TheVariants as words;
     ghost use Rattle.txn_journal.specs.declared.bundle_draft.Part.TheVariants as parts;
@@ -270,6 +270,13 @@ impl BundleDraft {
         ensures { result ≡ is_done (bundle_standing self.now).part }
     {
         self.part == Part::Ended
+    }
+
+    /// The limits of its version, as far as that has come: those of version 1 before.
+    pub fn limits(&self) -> Limits
+        ensures { result ≡ limits_of (bundle_standing self.now).version }
+    {
+        self.version.limits()
     }
 
     /// Whether the place of the entry that comes next may stand here.
@@ -484,6 +491,7 @@ impl BundleDraft {
             self.bundle.opening_set(),
             self.bundle.rows(),
             self.bundle.channels(),
+            self.bundle.journals(),
             &assumption,
         )? {
             return Err(LineFault::Wrong(Cause::Schema));
@@ -769,20 +777,18 @@ impl BundleDraft {
         self.draft.add(Some(self.bundle.schema()), change)
     }
 
-    /// Takes the next line, which writes this change, or returns its first fault.
+    /// Takes the next line, which writes this change in a text with these limits, or returns its first fault.
     pub fn take_change(
         &mut self,
         alloc: Global,
+        limits: Limits,
         line: &[u8],
         change: Change,
     ) -> Result<(), LineFault>
-        requires { change_in Narrow line.now ≡ Ok change }
+        requires { change_in limits line.now ≡ Ok change }
         ensures { TakesLine IsFullBundle result (judge_bundle (bundle_standing self.old) line.now) (bundle_standing self.new) }
     {
-        if self.part == Part::Journal
-            && self.draft.is_within()
-            && self.draft.limits() == Limits::Narrow
-        {
+        if self.part == Part::Journal && self.draft.is_within() && self.draft.limits() == limits {
             return self.add_change(change);
         }
         self.take_line(alloc, line)

@@ -14,7 +14,7 @@ use crate::feed::{Feed, TakeChange, TakeLine};
 use crate::lines::Due;
 use crate::parsed_lines::{ParsedEntry, ParsedLines};
 use crate::placed::{Placed, TakePlaces};
-use rows::Change;
+use rows::{Change, Limits};
 use std::alloc::{AllocError, Global};
 use std::marker::Model;
 
@@ -44,6 +44,7 @@ impl Model for Lines {
 
 impl Lines {
     ghost use Rattle.std.specs.Prelude.{true};
+    ghost use Rattle.txn_journal.specs.Versions.{limits_of};
     ghost use Rattle.txn_journal.specs.BundleStates.{no_bundle, is_done};
 
     /// Before the first line.
@@ -59,6 +60,12 @@ impl Lines {
         ensures { result ≡ is_done self.now.part }
     {
         self.draft.is_ended()
+    }
+
+    fn limits(&self) -> Limits
+        ensures { result ≡ limits_of self.now.version }
+    {
+        self.draft.limits()
     }
 
     /// The bundle, whose last line has come.
@@ -102,8 +109,14 @@ impl TakeLine for Lines {
 }
 
 impl TakeChange for Lines {
-    fn take_change(&mut self, alloc: Global, line: &[u8], change: Change) -> Result<(), LineFault> {
-        match self.draft.take_change(alloc, line, change) {
+    fn take_change(
+        &mut self,
+        alloc: Global,
+        limits: Limits,
+        line: &[u8],
+        change: Change,
+    ) -> Result<(), LineFault> {
+        match self.draft.take_change(alloc, limits, line, change) {
             Ok(()) => Ok(()),
             Err(fault) => {
                 self.draft.start_again(alloc);
@@ -147,7 +160,7 @@ impl BundleReader {
     ghost use Rattle.txn_journal.specs.Stream.{CountsLines, answer, StaysStopped};
     ghost use Rattle.txn_journal.specs.Formats.{FeedsBy, NamesSourcesBy};
     ghost use Rattle.txn_journal.specs.BundleReading.{bundles, bundle_start, closing_bundle, CountsFirstHere};
-    ghost use Rattle.txn_journal.specs.BundleReaders.{bundle_reading};
+    ghost use Rattle.txn_journal.specs.BundleReaders.{bundle_reading, limits_ahead};
 
     /// Before the first byte of a bundle of any version.
     pub fn start(alloc: Global) -> BundleReader
@@ -183,6 +196,17 @@ impl BundleReader {
         ensures answer { result ≡ answer (bundle_reading self.new) }
     {
         self.feed.feed_parsed(alloc, piece)
+    }
+
+    /// The limits by which the lines of the next piece are best parsed. It is a guess, and no answer goes by it.
+    pub fn limits_ahead(&self, piece: &[u8]) -> Limits
+        ensures { result ≡ limits_ahead self.now piece.now }
+    {
+        if piece.starts_with(b"bundle 3\n") {
+            Limits::Wide
+        } else {
+            self.feed.made.made.limits()
+        }
     }
 
     /// How many whole lines have come.

@@ -4,13 +4,12 @@ ghost use Rattle.gtid_set.specs.declared.fault.SetFault.{SetFault};
 ghost use Rattle.txn_journal.specs.Words.{IsOneLine, BeginsWithLine};
 ghost use Rattle.txn_journal.specs.Stream.{Judge, TakesLine, IsRefusedWhereFull, TakesPlain, IsLeftWhereFull};
 ghost use Rattle.txn_journal.specs.ChangeLines.{change_in};
-ghost use Rattle.rows.specs.declared.limits.Limits.TheVariants.{Narrow};
 ghost use Rattle.txn_journal.specs.TakenEntries.{TakesText};
 
 use crate::fault::{Cause, JournalFault, LineFault};
 use crate::parsed_lines::{ParsedEntry, ParsedItem, ParsedLine, ParsedLines};
 use row_images::first_line_feed;
-use rows::Change;
+use rows::{Change, Limits};
 use std::alloc::{AllocError, Global};
 
 /// The first line of a text, and what follows its line feed.
@@ -51,9 +50,15 @@ pub trait TakeLine {
 
 /// What also takes lines of changes, and entries, that were read beforehand.
 pub trait TakeChange: TakeLine {
-    /// Takes the next line, which writes this change, or returns its first fault.
-    fn take_change(&mut self, alloc: Global, line: &[u8], change: Change) -> Result<(), LineFault>
-        requires { change_in Narrow line.now ≡ Ok change }
+    /// Takes the next line, which writes this change in a text with these limits, or returns its first fault.
+    fn take_change(
+        &mut self,
+        alloc: Global,
+        limits: Limits,
+        line: &[u8],
+        change: Change,
+    ) -> Result<(), LineFault>
+        requires { change_in limits line.now ≡ Ok change }
         ensures { TakesLine Self.full result (Self.judge self.old line.now) self.new };
 
     /// Takes the lines of a whole entry, if nothing is wrong with them. If false, nothing has changed.
@@ -279,8 +284,12 @@ impl<T: TakeChange> Feed<T> {
         match item {
             ParsedItem::Entry(entry) => self.take_whole(alloc, entry),
             ParsedItem::Line(parsed) => {
-                let ParsedLine { line, change } = parsed;
-                self.take_either(alloc, line, change)
+                let ParsedLine {
+                    line,
+                    change,
+                    limits,
+                } = parsed;
+                self.take_either(alloc, limits, line, change)
             }
         }
     }
@@ -317,18 +326,19 @@ impl<T: TakeChange> Feed<T> {
     fn take_either(
         &mut self,
         alloc: Global,
+        limits: Limits,
         line: &[u8],
         change: Option<Change>,
     ) -> Result<(), JournalFault>
         requires goes { self.old.stopped ≡ None }
         requires whole { IsOneLine line.now }
-        requires written { HasChange Narrow line.now change }
+        requires written { HasChange limits line.now change }
         ensures next { TakesPiece (IsPieceFault T.full T.judge (progress self.old) (line.now ++ 10 ∷ [])) result (progress self.new) (feed_bytes T.judge (progress self.old) (line.now ++ 10 ∷ [])) }
         ensures goes { self.new.stopped ≡ None }
     {
         match change {
             Some(change) => if self.rest.is_empty() {
-                self.take_change(alloc, line, change)
+                self.take_change(alloc, limits, line, change)
             } else {
                 // (the line's first bytes came in an earlier piece)
                 self.take_line(alloc, line)
@@ -341,19 +351,20 @@ impl<T: TakeChange> Feed<T> {
     fn take_change(
         &mut self,
         alloc: Global,
+        limits: Limits,
         line: &[u8],
         change: Change,
     ) -> Result<(), JournalFault>
         requires goes { self.old.stopped ≡ None }
         requires first { self.old.rest.items ≡ [] }
         requires whole { IsOneLine line.now }
-        requires written { change_in Narrow line.now ≡ Ok change }
+        requires written { change_in limits line.now ≡ Ok change }
         ensures next { TakesPiece (IsPieceFault T.full T.judge (progress self.old) (line.now ++ 10 ∷ [])) result (progress self.new) (feed_bytes T.judge (progress self.old) (line.now ++ 10 ∷ [])) }
         ensures goes { self.new.stopped ≡ None }
     {
         let number = self.lines.saturating_add(1);
         self.lines = number;
-        match self.made.take_change(alloc, line, change) {
+        match self.made.take_change(alloc, limits, line, change) {
             Ok(()) => Ok(()),
             Err(LineFault::Set(fault)) => Err(JournalFault::Set(fault)),
             Err(LineFault::Wrong(cause)) => Err(JournalFault::Line {

@@ -47,6 +47,7 @@ mod placed;
 mod reader;
 mod references;
 mod spans;
+mod statements;
 mod tables;
 mod timestamped_journal;
 mod writer;

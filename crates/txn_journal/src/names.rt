@@ -7,8 +7,9 @@ ghost use Rattle.txn_journal.specs.Words.{name_of};
 use rows::{Limits, Name, NameFault};
 use std::alloc::{AllocError, Global};
 
-/// How many names are kept: as many as a schema of versions 1 and 2 may have tables. Our own rule.
-const KEPT: usize = 256;
+/// How many names are kept. One more is put into its place among the others, so that all of them together cost half the square of this
+/// number in moves of a few bytes. Our own rule.
+const KEPT: usize = 4_096;
 
 /// A name of texts with these limits.
 #[derive(Drop)]

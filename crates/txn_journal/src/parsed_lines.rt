@@ -5,7 +5,6 @@ ghost use Rattle.txn_journal.specs.ChangeLines.{change_at, change_in, HasChange}
 ghost use Rattle.txn_journal.specs.EntryLines.{BeginsWithGtid, BeginsWithChanges, IsEntryText};
 ghost use Rattle.txn_journal.specs.Stream.{Finds};
 ghost use Rattle.txn_journal.specs.declared.lines.Keyword.TheVariants as keywords;
-ghost use Rattle.rows.specs.declared.limits.Limits.TheVariants.{Narrow};
 
 use crate::draft::take_changes;
 use crate::fault::{Cause, LineFault};
@@ -20,13 +19,14 @@ use std::alloc::{AllocError, Global};
 use std::collections::VecDeque;
 use std::marker::Model;
 
-/// A line, and the change that it writes if that was read.
+/// A line, and the change that it writes in texts with these limits if that was read.
 #[derive(Drop)]
 pub struct ParsedLine<'a> {
     pub line: &'a [u8],
     pub change: Option<Change>,
+    pub limits: Limits,
     pub ghost whole: { IsOneLine line.now },
-    pub ghost written: { HasChange Narrow line.now change },
+    pub ghost written: { HasChange limits line.now change },
 }
 
 /// The lines of a whole entry of version 1, and what they write.
@@ -73,28 +73,43 @@ impl<'a> Model for ParsedLines<'a> {
 }
 
 #[tactic(auto, unfolding(crate::specs::ChangeLines::change_at))]
-fn insert_in(names: &mut Names, alloc: Global, rest: &[u8]) -> Result<Change, LineFault>
-    ensures { Finds (λ c. c) result (change_at Narrow keywords.Ins (Some rest.now)) }
+fn insert_in(
+    alloc: Global,
+    limits: Limits,
+    names: &mut Names,
+    rest: &[u8],
+) -> Result<Change, LineFault>
+    ensures { Finds (λ c. c) result (change_at limits keywords.Ins (Some rest.now)) }
 {
-    let (table, text) = table_at(names, alloc, Limits::Narrow, Some(rest))?;
+    let (table, text) = table_at(names, alloc, limits, Some(rest))?;
     let after = image(alloc, text)?;
     Ok(Change::Insert { table, after })
 }
 
 #[tactic(auto, unfolding(crate::specs::ChangeLines::change_at))]
-fn delete_in(names: &mut Names, alloc: Global, rest: &[u8]) -> Result<Change, LineFault>
-    ensures { Finds (λ c. c) result (change_at Narrow keywords.Del (Some rest.now)) }
+fn delete_in(
+    alloc: Global,
+    limits: Limits,
+    names: &mut Names,
+    rest: &[u8],
+) -> Result<Change, LineFault>
+    ensures { Finds (λ c. c) result (change_at limits keywords.Del (Some rest.now)) }
 {
-    let (table, text) = table_at(names, alloc, Limits::Narrow, Some(rest))?;
+    let (table, text) = table_at(names, alloc, limits, Some(rest))?;
     let before = image(alloc, text)?;
     Ok(Change::Delete { table, before })
 }
 
 #[tactic(auto, unfolding(crate::specs::ChangeLines::change_at))]
-fn update_in(names: &mut Names, alloc: Global, rest: &[u8]) -> Result<Change, LineFault>
-    ensures { Finds (λ c. c) result (change_at Narrow keywords.Upd (Some rest.now)) }
+fn update_in(
+    alloc: Global,
+    limits: Limits,
+    names: &mut Names,
+    rest: &[u8],
+) -> Result<Change, LineFault>
+    ensures { Finds (λ c. c) result (change_at limits keywords.Upd (Some rest.now)) }
 {
-    let (table, text) = table_at(names, alloc, Limits::Narrow, Some(rest))?;
+    let (table, text) = table_at(names, alloc, limits, Some(rest))?;
     let (before, after) = two_images(alloc, text)?;
     Ok(Change::Update {
         table,
@@ -103,24 +118,34 @@ fn update_in(names: &mut Names, alloc: Global, rest: &[u8]) -> Result<Change, Li
     })
 }
 
-/// The change that a line writes, or a fault if it writes none.
+/// The change that a line writes by these limits, or a fault if it writes none.
 #[tactic(auto, unfolding(crate::specs::ChangeLines::change_in))]
-fn read_change(names: &mut Names, alloc: Global, line: &[u8]) -> Result<Change, LineFault>
-    ensures { IfOk result (λ change. change_in Narrow line.now ≡ Ok change) }
+fn read_change(
+    alloc: Global,
+    limits: Limits,
+    names: &mut Names,
+    line: &[u8],
+) -> Result<Change, LineFault>
+    ensures { IfOk result (λ change. change_in limits line.now ≡ Ok change) }
 {
     match line {
-        [b'i', b'n', b's', b' ', rest @ ..] => insert_in(names, alloc, rest),
-        [b'u', b'p', b'd', b' ', rest @ ..] => update_in(names, alloc, rest),
-        [b'd', b'e', b'l', b' ', rest @ ..] => delete_in(names, alloc, rest),
+        [b'i', b'n', b's', b' ', rest @ ..] => insert_in(alloc, limits, names, rest),
+        [b'u', b'p', b'd', b' ', rest @ ..] => update_in(alloc, limits, names, rest),
+        [b'd', b'e', b'l', b' ', rest @ ..] => delete_in(alloc, limits, names, rest),
         _ => Err(LineFault::Wrong(Cause::Keyword)),
     }
 }
 
-/// The change that a line writes, if it writes one.
-fn change_of(names: &mut Names, alloc: Global, line: &[u8]) -> Result<Option<Change>, AllocError>
-    ensures { IfOk result (HasChange Narrow line.now) }
+/// The change that a line writes by these limits, if it writes one.
+fn change_of(
+    alloc: Global,
+    limits: Limits,
+    names: &mut Names,
+    line: &[u8],
+) -> Result<Option<Change>, AllocError>
+    ensures { IfOk result (HasChange limits line.now) }
 {
-    match read_change(names, alloc, line) {
+    match read_change(alloc, limits, names, line) {
         Ok(change) => Ok(Some(change)),
         Err(LineFault::Wrong(_)) => Ok(None),
         Err(LineFault::Set(_)) => Err(AllocError),
@@ -158,7 +183,7 @@ fn changes_at<'a>(
         if line == b"end".as_slice() {
             return Some(after);
         }
-        let Ok(change) = read_change(names, alloc, line) else {
+        let Ok(change) = read_change(alloc, Limits::Narrow, names, line) else {
             return None;
         };
         if changes.len() >= Limits::Narrow.changes()
@@ -207,16 +232,24 @@ fn entry_at<'a>(
 /// The line with which a text begins, and what follows it. A line with a fault has no change.
 fn line_at<'a>(
     alloc: Global,
+    limits: Limits,
     names: &mut Names,
     text: &'a [u8],
 ) -> Option<(ParsedLine<'a>, &'a [u8])>
     ensures { IfSome result (λ r. BeginsWithLine text.now r.0.line.now r.1.now) }
 {
     let (line, after) = cut_line(text)?;
-    let Ok(change) = change_of(names, alloc, line) else {
+    let Ok(change) = change_of(alloc, limits, names, line) else {
         return None;
     };
-    Some((ParsedLine { line, change }, after))
+    Some((
+        ParsedLine {
+            line,
+            change,
+            limits,
+        },
+        after,
+    ))
 }
 
 /// What comes before the end of a text.
@@ -231,9 +264,11 @@ fn front_of<'a>(text: &'a [u8], after: &[u8]) -> &'a [u8]
 impl<'a> ParsedItem<'a> {
     ghost use Rattle.txn_journal.specs.ParsedTexts.{item_text};
 
-    /// The entry or line with which a text begins, and what follows it. There is none if its line has not come whole, or if out of memory.
+    /// The entry or line with which a text begins, by these limits, and what follows it. There is none if its line has not come whole, or
+    /// if out of memory.
     fn at(
         alloc: Global,
+        limits: Limits,
         names: &mut Names,
         near: &mut NearSources,
         changes: &mut Vec<Change>,
@@ -241,10 +276,12 @@ impl<'a> ParsedItem<'a> {
     ) -> Option<(ParsedItem<'a>, &'a [u8])>
         ensures { IfSome result (λ r. text.now ≡ item_text r.0 ++ r.1.now) }
     {
-        if let Some((entry, after)) = entry_at(alloc, names, near, changes, text) {
-            return Some((ParsedItem::Entry(entry), after));
+        if limits == Limits::Narrow {
+            if let Some((entry, after)) = entry_at(alloc, names, near, changes, text) {
+                return Some((ParsedItem::Entry(entry), after));
+            }
         }
-        let (line, after) = line_at(alloc, names, text)?;
+        let (line, after) = line_at(alloc, limits, names, text)?;
         Some((ParsedItem::Line(line), after))
     }
 }
@@ -282,8 +319,9 @@ impl<'a> ParsedEntry<'a> {
 impl<'a> ParsedLines<'a> {
     ghost use Rattle.txn_journal.specs.ParsedTexts.{text_in};
 
-    /// Cuts a text into entries and lines, and reads what they write. If out of memory, what follows is left as it is.
-    pub fn parse(alloc: Global, text: &'a [u8]) -> ParsedLines<'a>
+    /// Cuts a text into entries and lines, and reads what they write in a text with these limits. In a text with others the lines are read
+    /// again as they are taken. If out of memory, what follows is left as it is.
+    pub fn parse(alloc: Global, limits: Limits, text: &'a [u8]) -> ParsedLines<'a>
         ensures { result ≡ text.now }
     {
         let mut names = Names::start(alloc);
@@ -294,6 +332,7 @@ impl<'a> ParsedLines<'a> {
         'items: loop {
             let Some((item, after)) = ParsedItem::at(
                 alloc,
+                limits,
                 &mut names,
                 &mut near,
                 &mut changes,

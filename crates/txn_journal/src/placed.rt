@@ -8,7 +8,7 @@ use crate::feed::{TakeChange, TakeLine};
 use crate::log_places::{is_entry_line, is_place_line, place_in};
 use crate::parsed_lines::ParsedEntry;
 use row_images::cut;
-use rows::Change;
+use rows::{Change, Limits};
 use std::alloc::{AllocError, Global};
 
 /// What takes lines, and knows where the place of an entry may stand between them.
@@ -103,11 +103,17 @@ impl<T: TakePlaces> TakeLine for Placed<T> {
 }
 
 impl<T: TakePlaces + TakeChange> TakeChange for Placed<T> {
-    fn take_change(&mut self, alloc: Global, line: &[u8], change: Change) -> Result<(), LineFault> {
+    fn take_change(
+        &mut self,
+        alloc: Global,
+        limits: Limits,
+        line: &[u8],
+        change: Change,
+    ) -> Result<(), LineFault> {
         if self.is_placed {
             return Err(LineFault::Wrong(Cause::Keyword));
         }
-        self.made.take_change(alloc, line, change)
+        self.made.take_change(alloc, limits, line, change)
     }
 
     fn take_entry(&mut self, alloc: Global, entry: ParsedEntry<'_>) -> Result<bool, AllocError> {

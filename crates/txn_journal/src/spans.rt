@@ -1,12 +1,12 @@
 //! Spans: parts of sets, as words name them.
-ghost use Rattle.std.specs.Prelude.{◌≡◌, ◌≤◌, ◌++◌, true, OnOk, option_map};
+ghost use Rattle.std.specs.Prelude.{◌≡◌, ◌++◌, OnOk, option_map};
 ghost use Rattle.std.specs.String.{string_bytes};
+ghost use Rattle.std.specs.List.{list_all};
 ghost use Rattle.std.specs.FinSet as set;
-ghost use Rattle.gtid_set.specs.Sets.{interval};
-ghost use Rattle.gtid_set.specs.Spans.{set_of, is_merged};
+ghost use Rattle.gtid_set.specs.Spans.{set_of};
 ghost use Rattle.txn_journal.specs.WrittenSets.{spans_word};
 ghost use Rattle.txn_journal.specs.Stream.{Finds};
-ghost use Rattle.txn_journal.specs.Assumptions.{spans_behind};
+ghost use Rattle.txn_journal.specs.Assumptions.{has_span, spans_behind};
 
 use crate::fault::{Cause, LineFault};
 use gtid_set::GtidSet;
@@ -76,24 +76,24 @@ pub fn write_spans_word(out: &mut String, spans: &[Span]) -> Result<(), AllocErr
 
 /// Whether a set has all of an interval.
 fn has_span(whole: &GtidSet, span: &Span) -> bool
-    requires { span.now.lo ≤ span.now.hi }
-    ensures { result ≡ set.is_subset (interval span.now.source span.now.lo span.now.hi) whole.now }
+    ensures { result ≡ has_span whole.now span.now }
 {
     match whole.run_end(span.source, span.lo) {
         Some(last) => span.hi <= last,
-        None => false,
+        None => span.hi < span.lo,
     }
 }
 
+fn has_each(whole: &GtidSet, spans: &[Span]) -> bool
+    ensures { result ≡ list_all (has_span whole.now) spans.now }
+{
+    spans.iter().all(|span| has_span(whole, span))
+}
+
 /// Whether a set has all of these spans. It takes as many steps as there are spans, times the binary digits of the number of the set's.
+#[tactic(auto, using(crate::proofs::SpansWithin::each_within))]
 pub fn has_spans(whole: &GtidSet, spans: &[Span]) -> bool
-    requires { is_merged spans.now ≡ true }
     ensures { result ≡ set.is_subset (set_of spans.now) whole.now }
 {
-    for span in spans {
-        if !has_span(whole, span) {
-            return false;
-        }
-    }
-    true
+    has_each(whole, spans)
 }

@@ -4,6 +4,7 @@ ghost use Rattle.std.specs.Prelude.{◌≤◌};
 use applier::Gate;
 use commands::{Answer, Failed, Outcome, Sink, apply_decoded, merge_decoded};
 use serving::Order;
+use source_shares::{NoShareGate, ShareGate};
 use std::alloc::Global;
 use std::sync::Wait;
 use std::thread::Threads;
@@ -66,7 +67,28 @@ pub(crate) fn answers<G: Gate + Sync, R: Threads + Wait + Sync>(
     }
 }
 
-/// Whether the fast way, on so many threads, answers a bundle by these lines.
+/// Whether the fast way, on so many threads with a gate, answers a bundle by these lines.
+pub(crate) fn merges_by_gate<G: ShareGate + Sync, R: Threads + Sync>(
+    rt: &R,
+    alloc: Global,
+    text: &str,
+    order: Order,
+    workers: u8,
+    gate: &G,
+    lines: &str,
+) -> bool
+    requires { (1 ≤ workers) × (workers ≤ 64) }
+{
+    let Ok(bundle) = decode_bundle(alloc, text.as_bytes()) else {
+        return false;
+    };
+    match merge_decoded(rt, alloc, &bundle, order, workers, gate) {
+        Ok(answer) => has_lines(alloc, &answer, lines),
+        Err(_) => false,
+    }
+}
+
+/// The same with the gate that does nothing.
 pub(crate) fn merges_to<R: Threads + Sync>(
     rt: &R,
     alloc: Global,
@@ -77,11 +99,5 @@ pub(crate) fn merges_to<R: Threads + Sync>(
 ) -> bool
     requires { (1 ≤ workers) × (workers ≤ 64) }
 {
-    let Ok(bundle) = decode_bundle(alloc, text.as_bytes()) else {
-        return false;
-    };
-    match merge_decoded(rt, alloc, &bundle, order, workers) {
-        Ok(answer) => has_lines(alloc, &answer, lines),
-        Err(_) => false,
-    }
+    merges_by_gate(rt, alloc, text, order, workers, &NoShareGate, lines)
 }

@@ -95,20 +95,9 @@ pub(crate) fn has_state(alloc: Global, book: &ClosedBook, lines: &str) -> bool {
     }
 }
 
-/// How many commits the seats have counted of a book whose state has these lines; None where it has others, or something is left for the
-/// drain.
+/// How many commits the seats have counted of a book whose state has these lines once what is left was drained; None where it has others.
 pub(crate) fn commits_to(alloc: Global, book: Option<ClosedBook>, lines: &str) -> Option<u64> {
     let mut book = book?;
-    let steps = book.steps().len();
-    let is_drained = drain(alloc, &mut book).is_ok() && book.steps().len() == steps;
-    let is_whole = is_drained && has_state(alloc, &book, lines);
+    let is_whole = drain(alloc, &mut book).is_ok() && has_state(alloc, &book, lines);
     is_whole.then_some(book.counts().commits)
-}
-
-/// Whether a book's state has these lines once what is left was drained.
-pub(crate) fn drains_to(alloc: Global, book: Option<ClosedBook>, lines: &str) -> bool {
-    match book {
-        Some(mut book) => drain(alloc, &mut book).is_ok() && has_state(alloc, &book, lines),
-        None => false,
-    }
 }

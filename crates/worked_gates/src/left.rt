@@ -1,12 +1,14 @@
-//! Channels that a worker leaves: one whose order keeps its commit back, and one that is stopped.
-ghost use Rattle.std.specs.Prelude.{◌≡◌};
+//! Channels that a worker leaves: one whose order keeps its commit back, and those that are stopped.
+ghost use Rattle.std.specs.Prelude.{◌≡◌, true};
+ghost use Rattle.replica_core.specs.Machine.{is_numbered};
 
 use super::books::{book_of_workers, has_state, served_core};
 use applier::{NoGate, WorkersEnd, run_workers};
 use commit_ledger::Blanks;
 use replica_core::{Core, Event, Reply};
+use replica_lines::{push_history_line, status};
 use shared_replica::{ClosedBook, Naming, SharedReplica, Step};
-use std::alloc::Global;
+use std::alloc::{AllocError, Global};
 use std::marker::Brand;
 use std::sync::Wait;
 use std::test::Fail;
@@ -48,10 +50,7 @@ row t 4 x64 null
 fn word_of(step: &Step, seat: u8) -> Option<&'static str> {
     match (&step.event, &step.reply) {
         (Event::Take(who, _, _), Reply::Taken(_)) if *who == seat => Some("taken"),
-        (Event::Take(who, _, _), Reply::Stopped) if *who == seat => Some("stopped"),
-        (Event::Commit(who), Reply::Committed(_)) if *who == seat => Some("committed"),
         (Event::Commit(who), Reply::Early(0)) if *who == seat => Some("early"),
-        (Event::Commit(who), Reply::RowRefused(_, _)) if *who == seat => Some("refused"),
         (Event::Rollback(who), Reply::RolledBack(_)) if *who == seat => Some("rolled back"),
         _ => None,
     }
@@ -148,73 +147,116 @@ close
 done
 ";
 
-/// What is executed where the first channel stops at its second place.
-const BEFORE_THE_STOP: &str =
-    "executed aaaaaaaa-aaaa-aaaa-aaaa-aaaaaaaaaaaa:1,bbbbbbbb-bbbb-bbbb-bbbb-bbbbbbbbbbbb:1
+/// A channel that a worker leaves stopped, and what is seen of it.
+#[derive(Clone, Copy)]
+struct Stopping {
+    channel: usize,
+    /// The place at which it stopped.
+    place: usize,
+    /// The lines of the state, which the calls after the worker's end leave as it is.
+    state: &'static str,
+    /// The status where it is stopped.
+    stopped: &'static str,
+    /// The status where it was restarted.
+    restarted: &'static str,
+    /// The status where its place was taken again.
+    taken: &'static str,
+    /// The lines of the worker's steps and of those calls.
+    history: &'static str,
+}
+
+/// The first channel is stopped by its second commit, and the worker's third take finds it so.
+const NO_ROW_STOPS: Stopping = Stopping {
+    channel: 0,
+    place: 1,
+    state: "executed aaaaaaaa-aaaa-aaaa-aaaa-aaaaaaaaaaaa:1,bbbbbbbb-bbbb-bbbb-bbbb-bbbbbbbbbbbb:1
 row t 1 x61 null
 row t 4 x64 null
-";
+",
+    stopped: "gtid_executed aaaaaaaa-aaaa-aaaa-aaaa-aaaaaaaaaaaa:1,bbbbbbbb-bbbb-bbbb-bbbb-bbbbbbbbbbbb:1
+gtid_purged -
+gtid_owned -
+channel x stopped aaaaaaaa-aaaa-aaaa-aaaa-aaaaaaaaaaaa:1-3
+channel y running bbbbbbbb-bbbb-bbbb-bbbb-bbbbbbbbbbbb:1
+",
+    restarted: "gtid_executed aaaaaaaa-aaaa-aaaa-aaaa-aaaaaaaaaaaa:1,bbbbbbbb-bbbb-bbbb-bbbb-bbbbbbbbbbbb:1
+gtid_purged -
+gtid_owned -
+channel x running aaaaaaaa-aaaa-aaaa-aaaa-aaaaaaaaaaaa:1-3
+channel y running bbbbbbbb-bbbb-bbbb-bbbb-bbbbbbbbbbbb:1
+",
+    taken: "gtid_executed aaaaaaaa-aaaa-aaaa-aaaa-aaaaaaaaaaaa:1,bbbbbbbb-bbbb-bbbb-bbbb-bbbbbbbbbbbb:1
+gtid_purged -
+gtid_owned aaaaaaaa-aaaa-aaaa-aaaa-aaaaaaaaaaaa:2#1
+channel x running aaaaaaaa-aaaa-aaaa-aaaa-aaaaaaaaaaaa:1-3
+channel y running bbbbbbbb-bbbb-bbbb-bbbb-bbbbbbbbbbbb:1
+",
+    history: "0 1 take 1 0 0 -> Taken(aaaaaaaa-aaaa-aaaa-aaaa-aaaaaaaaaaaa:1)
+1 1 commit 1 -> Committed(aaaaaaaa-aaaa-aaaa-aaaa-aaaaaaaaaaaa:1)
+2 1 take 1 0 1 -> Taken(aaaaaaaa-aaaa-aaaa-aaaa-aaaaaaaaaaaa:2)
+3 1 commit 1 -> RowRefused(aaaaaaaa-aaaa-aaaa-aaaa-aaaaaaaaaaaa:2 E10 change 0 key 0)
+4 1 take 1 0 2 -> Stopped
+5 1 take 1 1 0 -> Taken(bbbbbbbb-bbbb-bbbb-bbbb-bbbbbbbbbbbb:1)
+6 1 commit 1 -> Committed(bbbbbbbb-bbbb-bbbb-bbbb-bbbbbbbbbbbb:1)
+7 1 take 1 0 1 -> Stopped
+8 - restart 0 -> Restarted
+9 1 take 1 0 1 -> Taken(aaaaaaaa-aaaa-aaaa-aaaa-aaaaaaaaaaaa:2)
+",
+};
 
-/// What the one worker does, place by place: its second commit is refused, and its third take meets the stopped channel.
-const STOPPED_ONCE: [&str; 7] = [
-    "taken",
-    "committed",
-    "taken",
-    "refused",
-    "stopped",
-    "taken",
-    "committed",
-];
-
-/// Whether a step is the first seat's, with this word.
-fn has_word(step: Option<&Step>, word: &str) -> bool {
-    match step {
-        Some(step) => word_of(step, 1) == Some(word),
-        None => false,
+/// Whether the core of a book has this status and this state.
+fn shows(alloc: Global, book: &ClosedBook, lines: &str, state: &str) -> bool {
+    match status(alloc, book.state()) {
+        Ok(text) => text.as_str() == lines && has_state(alloc, book, state),
+        Err(_) => false,
     }
 }
 
-/// Whether the steps of a book are the first seat's, with these words.
-fn has_words(book: &ClosedBook, words: &[&str]) -> bool {
-    for (place, word) in words.iter().enumerate() {
-        if !has_word(book.steps().get(place), word) {
-            return false;
-        }
+/// Whether the core of a book has this status and this state after one event more.
+fn shows_after(
+    alloc: Global,
+    book: &mut ClosedBook,
+    event: &Event,
+    lines: &str,
+    state: &str,
+) -> bool
+    requires { is_numbered event.now ≡ true }
+{
+    drop(book.step(alloc, event));
+    shows(alloc, book, lines, state)
+}
+
+/// The lines of steps, each with its place.
+fn history_text(alloc: Global, steps: &[Step]) -> Result<String, AllocError> {
+    let mut text = String::new(alloc);
+    for (place, step) in steps.iter().enumerate() {
+        push_history_line(alloc, &mut text, place as u64, &step.event, &step.reply)?;
+        text.push_str("\n")?;
     }
-    book.steps().len() == words.len()
+    Ok(text)
 }
 
-/// Whether the first channel, which is stopped, runs again.
-fn restarts(alloc: Global, book: &mut ClosedBook) -> bool {
-    let reply = book.step(alloc, &Event::Restart(0));
-    let is_so = matches!(&reply, Ok(Reply::Restarted));
-    drop(reply);
-    is_so
-}
-
-/// Whether the second place of the first channel can be taken.
-fn is_taken(alloc: Global, book: &mut ClosedBook) -> bool {
-    let reply = book.step(alloc, &Event::Take(1, 0, 1));
-    let is_so = matches!(&reply, Ok(Reply::Taken(gtid)) if gtid.number == 2);
-    drop(reply);
-    is_so
-}
-
-/// Whether the first channel runs again, and its second place can be taken again.
-fn is_taken_again(alloc: Global, book: &mut ClosedBook) -> bool {
-    restarts(alloc, book) && is_taken(alloc, book)
-}
-
-/// Whether the worker has left the stopped channel, and that channel can run again.
-fn left_stopped(alloc: Global, book: Option<ClosedBook>) -> bool {
-    match book {
-        Some(mut book) => {
-            has_words(&book, &STOPPED_ONCE)
-                && has_state(alloc, &book, BEFORE_THE_STOP)
-                && is_taken_again(alloc, &mut book)
-        }
-        None => false,
+/// Whether steps have these lines.
+fn has_history(alloc: Global, steps: &[Step], lines: &str) -> bool {
+    match history_text(alloc, steps) {
+        Ok(text) => text.as_str() == lines,
+        Err(_) => false,
     }
+}
+
+/// Whether a worker has left a channel stopped: its place can't be taken before it was restarted, and then it can.
+fn is_stopped(alloc: Global, book: Option<ClosedBook>, stopping: &Stopping) -> bool {
+    let Some(mut book) = book else {
+        return false;
+    };
+    let state = stopping.state;
+    let take = Event::Take(1, stopping.channel, stopping.place);
+    let restart = Event::Restart(stopping.channel);
+    let is_left = shows(alloc, &book, stopping.stopped, state);
+    let is_kept = shows_after(alloc, &mut book, &take, stopping.stopped, state);
+    let runs = shows_after(alloc, &mut book, &restart, stopping.restarted, state);
+    let is_taken = shows_after(alloc, &mut book, &take, stopping.taken, state);
+    is_left && is_kept && runs && is_taken && has_history(alloc, book.steps(), stopping.history)
 }
 
 /// A transaction that does not apply stops its channel. The worker serves that channel no more and goes on with the other one; once the
@@ -226,6 +268,75 @@ fn a_stopped_channel_is_left(rt: HostRuntime) -> Result<(), Fail> {
         return Err(Fail::from("no replica"));
     };
     let book = book_of_workers(&rt, alloc, core, 1, &NoGate);
-    assert!(rt; left_stopped(alloc, book));
+    assert!(rt; is_stopped(alloc, book, &NO_ROW_STOPS));
+    Ok(())
+}
+
+/// Two channels, of which each inserts a row under one primary key.
+const ONE_KEY: &str = "bundle 1
+replica cccccccc-cccc-cccc-cccc-cccccccccccc
+table t 3 pk 0 uk 1
+channel x
+journal 1
+previous -
+txn aaaaaaaa-aaaa-aaaa-aaaa-aaaaaaaaaaaa:1
+ins t 1 x61 null
+end
+close
+channel y
+journal 1
+previous -
+txn bbbbbbbb-bbbb-bbbb-bbbb-bbbbbbbbbbbb:1
+ins t 1 x62 null
+end
+close
+done
+";
+
+/// The second channel is stopped by its only commit.
+const ONE_KEY_STOPS: Stopping = Stopping {
+    channel: 1,
+    place: 0,
+    state: "executed aaaaaaaa-aaaa-aaaa-aaaa-aaaaaaaaaaaa:1
+row t 1 x61 null
+",
+    stopped: "gtid_executed aaaaaaaa-aaaa-aaaa-aaaa-aaaaaaaaaaaa:1
+gtid_purged -
+gtid_owned -
+channel x running aaaaaaaa-aaaa-aaaa-aaaa-aaaaaaaaaaaa:1
+channel y stopped bbbbbbbb-bbbb-bbbb-bbbb-bbbbbbbbbbbb:1
+",
+    restarted: "gtid_executed aaaaaaaa-aaaa-aaaa-aaaa-aaaaaaaaaaaa:1
+gtid_purged -
+gtid_owned -
+channel x running aaaaaaaa-aaaa-aaaa-aaaa-aaaaaaaaaaaa:1
+channel y running bbbbbbbb-bbbb-bbbb-bbbb-bbbbbbbbbbbb:1
+",
+    taken: "gtid_executed aaaaaaaa-aaaa-aaaa-aaaa-aaaaaaaaaaaa:1
+gtid_purged -
+gtid_owned bbbbbbbb-bbbb-bbbb-bbbb-bbbbbbbbbbbb:1#1
+channel x running aaaaaaaa-aaaa-aaaa-aaaa-aaaaaaaaaaaa:1
+channel y running bbbbbbbb-bbbb-bbbb-bbbb-bbbbbbbbbbbb:1
+",
+    history: "0 1 take 1 0 0 -> Taken(aaaaaaaa-aaaa-aaaa-aaaa-aaaaaaaaaaaa:1)
+1 1 commit 1 -> Committed(aaaaaaaa-aaaa-aaaa-aaaa-aaaaaaaaaaaa:1)
+2 1 take 1 1 0 -> Taken(bbbbbbbb-bbbb-bbbb-bbbb-bbbbbbbbbbbb:1)
+3 1 commit 1 -> RowRefused(bbbbbbbb-bbbb-bbbb-bbbb-bbbbbbbbbbbb:1 E12 change 0 key 0)
+4 1 take 1 1 0 -> Stopped
+5 - restart 1 -> Restarted
+6 1 take 1 1 0 -> Taken(bbbbbbbb-bbbb-bbbb-bbbb-bbbbbbbbbbbb:1)
+",
+};
+
+/// An insert under a key that another channel's row has stops its channel, and leaves the rows as they are. The transaction can be taken
+/// again once the channel is restarted.
+#[test]
+fn a_second_row_of_one_key_is_refused(rt: HostRuntime) -> Result<(), Fail> {
+    let alloc = rt.alloc();
+    let Some(core) = served_core(alloc, ONE_KEY) else {
+        return Err(Fail::from("no replica"));
+    };
+    let book = book_of_workers(&rt, alloc, core, 1, &NoGate);
+    assert!(rt; is_stopped(alloc, book, &ONE_KEY_STOPS));
     Ok(())
 }

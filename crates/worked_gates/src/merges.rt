@@ -1,15 +1,9 @@
 //! What workers leave of several channels: the same for each number of workers, whether the channels preserve their order or not.
-ghost use Rattle.std.specs.Prelude.{◌≤◌};
-
 use super::answers::{answers, merges_to};
-use super::books::{book_of_bundle, book_of_workers, commits_to, drains_to, served_core};
+use super::books::{book_of_bundle, commits_to};
 use applier::NoGate;
 use serving::Order;
-use shared_replica::ClosedBook;
-use std::alloc::Global;
-use std::sync::Wait;
 use std::test::Fail;
-use std::thread::Threads;
 
 /// A bundle of three channels, which bring some GTIDs twice; the word after the names of the channels is given.
 macro_rules! three_channels {
@@ -63,7 +57,7 @@ macro_rules! three_channels {
 pub(crate) const THREE_CHANNELS: &str = three_channels!("");
 
 /// The bundle whose channels preserve their order.
-const THREE_IN_ORDER: &str = three_channels!(" preserve");
+pub(crate) const THREE_IN_ORDER: &str = three_channels!(" preserve");
 
 /// What the three channels bring together.
 pub(crate) const UNION: &str =
@@ -73,63 +67,15 @@ row t 2 x62 null
 row t 3 x63 null
 ";
 
-/// The book that so many workers leave of a replica that was served a bundle, undrained.
-fn undrained_book<R: Threads + Wait + Sync>(
-    rt: &R,
-    alloc: Global,
-    text: &str,
-    workers: u8,
-) -> Option<ClosedBook>
-    requires { (1 ≤ workers) × (workers ≤ 64) }
-{
-    let core = served_core(alloc, text)?;
-    book_of_workers(rt, alloc, core, workers, &NoGate)
-}
-
-/// Each GTID is committed once by the workers, and nothing is left for the drain.
+/// By the fast way the answer is that state, whether the channels preserve their order or not.
 #[test]
-fn workers_commit_the_union(rt: HostRuntime) -> Result<(), Fail> {
+fn shares_answer_the_union(rt: HostRuntime) -> Result<(), Fail> {
     let alloc = rt.alloc();
     for workers in [2, 64] {
-        let shared = undrained_book(&rt, alloc, THREE_CHANNELS, workers);
-        assert_eq!(rt;
-            commits_to(alloc, shared, UNION),
-            Some(4),
-            "{workers} workers"
-        );
-        let applied = book_of_bundle(
-            &rt,
-            alloc,
-            THREE_CHANNELS,
-            Order::BySource,
-            workers,
-            &NoGate,
-        );
-        assert_eq!(rt;
-            commits_to(alloc, applied, UNION),
-            Some(4),
-            "{workers} workers"
-        );
-    }
-    Ok(())
-}
-
-/// Where the channels preserve their order, a worker may leave a channel whose next place another has; the drain does the rest.
-#[test]
-fn channels_in_order_give_the_union(rt: HostRuntime) -> Result<(), Fail> {
-    let alloc = rt.alloc();
-    for workers in [2, 64] {
-        let shared = undrained_book(&rt, alloc, THREE_IN_ORDER, workers);
-        assert!(rt; drains_to(alloc, shared, UNION), "{workers} workers");
-        let applied = book_of_bundle(
-            &rt,
-            alloc,
-            THREE_IN_ORDER,
-            Order::BySource,
-            workers,
-            &NoGate,
-        );
-        assert!(rt; drains_to(alloc, applied, UNION), "{workers} workers");
+        for text in [THREE_CHANNELS, THREE_IN_ORDER] {
+            let merges_so = merges_to(&rt, alloc, text, Order::BySource, workers, UNION);
+            assert!(rt; merges_so, "{workers} workers");
+        }
     }
     Ok(())
 }
@@ -174,21 +120,6 @@ row t 1 x61 5
 row t 2 x62 null
 row t 3 x63 null
 ";
-
-/// The answer is that state, whether the channels preserve their order or not, and by either way.
-#[test]
-fn workers_answer_the_union(rt: HostRuntime) -> Result<(), Fail> {
-    let alloc = rt.alloc();
-    for workers in [2, 64] {
-        for text in [THREE_CHANNELS, THREE_IN_ORDER] {
-            let answers_so = answers(&rt, alloc, text, Order::BySource, workers, &NoGate, UNION);
-            assert!(rt; answers_so, "{workers} workers");
-            let merges_so = merges_to(&rt, alloc, text, Order::BySource, workers, UNION);
-            assert!(rt; merges_so, "{workers} workers");
-        }
-    }
-    Ok(())
-}
 
 /// Sources that share a key are applied by workers where the audit asks for one order of what shares a key; else there is a verdict.
 #[test]

@@ -1,14 +1,39 @@
 //! Threads that apply shares of the sources.
 
-use row_parts::list_whole;
-use rows::Rows;
-use serving::keeps_servable;
-use source_shares::{Merged, merge_by_shares};
-use std::alloc::Global;
-use std::process::Abort;
+use super::answers::merges_by_gate;
+use serving::Order;
+use source_shares::ShareGate;
+use std::sync::atomic::{AtomicU64, Ordering};
 use std::test::Fail;
-use std::thread::Threads;
-use txn_journal::{Bundle, decode_bundle};
+
+/// The first share that begins waits until another was applied.
+#[derive(Drop)]
+struct Overlap {
+    /// How many shares have begun.
+    begun: AtomicU64,
+    /// How many shares were applied.
+    applied: AtomicU64,
+    /// 1 where the share that waited saw that another was applied.
+    met: AtomicU64,
+}
+
+impl ShareGate for Overlap {
+    fn before_share(&self, _share: usize) {
+        if self.begun.fetch_add(1, Ordering::SeqCst) != 0 {
+            return;
+        }
+        for _ in 0..1_000_000_000u64 {
+            if self.applied.load(Ordering::SeqCst) != 0 {
+                self.met.store(1, Ordering::SeqCst);
+                return;
+            }
+        }
+    }
+
+    fn after_share(&self, _share: usize) {
+        self.applied.fetch_add(1, Ordering::SeqCst);
+    }
+}
 
 /// A bundle of two channels. Each brings transactions of a source of its own, and the second also one that the first has brought.
 const TWO_SOURCES: &str = "bundle 1
@@ -38,44 +63,35 @@ close
 done
 ";
 
-/// How many parts, rows and GTIDs were merged.
-fn count_merged<R: Threads + Sync>(
-    rt: &R,
-    alloc: Global,
-    opening: &Rows,
-    merged: &Merged,
-) -> Option<(usize, usize, u128)> {
-    match list_whole(rt, alloc, opening, &merged.parts) {
-        Ok(rows) => Some((merged.parts.len(), rows.len(), merged.executed.count())),
-        Err(_) => None,
-    }
-}
+/// What the two sources leave.
+const BOTH_SOURCES: &str =
+    "executed aaaaaaaa-aaaa-aaaa-aaaa-aaaaaaaaaaaa:1-2,bbbbbbbb-bbbb-bbbb-bbbb-bbbbbbbbbbbb:1
+row t 2 x62 null
+row t 3 x61 null
+";
 
-/// How many shares of a bundle's sources are made of at most two, and how many rows and GTIDs they have together; None where none are made.
-fn merged_by_two<R: Threads + Sync>(
-    rt: &R,
-    alloc: Global,
-    bundle: &Bundle,
-) -> Option<(usize, usize, u128)> {
-    keeps_servable(bundle);
-    let opened = bundle.opening_set();
-    let rows = bundle.rows();
-    let found = merge_by_shares(rt, alloc, opened, rows, bundle.journals(), 2);
-    match found {
-        Some(merged) => count_merged(rt, alloc, rows, &merged),
-        None => None,
-    }
-}
-
-/// Two sources that share no key are two shares, and what is merged is all of both.
+/// Two sources that share no key are two shares, one of which is applied while the other is under way; the answer is all of both.
 #[test]
-fn two_sources_are_two_shares(rt: HostRuntime) -> Result<(), Fail> {
+fn two_shares_are_applied_at_once(rt: HostRuntime) -> Result<(), Fail> {
     let alloc = rt.alloc();
-    let Ok(bundle) = decode_bundle(alloc, TWO_SOURCES.as_bytes()) else {
-        return Err(Fail::from("no bundle"));
+    let gate = Overlap {
+        begun: AtomicU64::new(0),
+        applied: AtomicU64::new(0),
+        met: AtomicU64::new(0),
     };
-    let found = merged_by_two(&rt, alloc, &bundle);
-    drop(bundle);
-    assert_eq!(rt; found, Some((2, 2, 3)));
+    assert!(rt;
+        merges_by_gate(
+            &rt,
+            alloc,
+            TWO_SOURCES,
+            Order::BySource,
+            2,
+            &gate,
+            BOTH_SOURCES
+        )
+    );
+    assert_eq!(rt; gate.begun.load(Ordering::SeqCst), 2);
+    assert_eq!(rt; gate.applied.load(Ordering::SeqCst), 2);
+    assert_eq!(rt; gate.met.load(Ordering::SeqCst), 1);
     Ok(())
 }

@@ -14,8 +14,10 @@ use std::process::Abort;
 use std::sync::Wait;
 use std::test::Fail;
 
-const A: u128 = 0xaaaa_aaaa_aaaa_aaaa_aaaa_aaaa_aaaa_aaaa;
+/// The bits of the source's UUID.
+pub(crate) const A: u128 = 0xaaaa_aaaa_aaaa_aaaa_aaaa_aaaa_aaaa_aaaa;
 
+/// The bits of the replica's own UUID.
 const C: u128 = 0xcccc_cccc_cccc_cccc_cccc_cccc_cccc_cccc;
 
 /// The reply to a call. Numbers of GTIDs are those of A.
@@ -40,10 +42,10 @@ enum Said {
 }
 
 /// A call of one of two seats, its reply, and how many GTIDs are executed then.
-type Turn = (u8, Call, Said, u128);
+type AnsweredCall = (u8, Call, Said, u128);
 
 /// The turns, with the replies that the rules of seats and places give.
-const TURNS: [Turn; 20] = [
+const TURNS: [AnsweredCall; 20] = [
     (1, Call::Open, Said::Opened, 0),
     (2, Call::Position, Said::Asked, 0),
     (1, Call::Receive(0), Said::Received(0), 0),
@@ -66,7 +68,8 @@ const TURNS: [Turn; 20] = [
     (1, Call::Look, Said::Shown(4), 4),
 ];
 
-fn is_gtid(gtid: &Gtid, source: u128, number: u64) -> bool {
+/// Whether a GTID is of this source and has this number.
+pub(crate) fn is_gtid(gtid: &Gtid, source: u128, number: u64) -> bool {
     gtid.source == SourceId::from_bits(source) && gtid.number == number
 }
 
@@ -117,7 +120,7 @@ fn is_event(event: &Event, seat: u8, call: Call) -> bool {
 }
 
 /// Whether a step is that of a turn.
-fn is_turn(turn: &Turn, step: &Step) -> bool {
+fn is_turn(turn: &AnsweredCall, step: &Step) -> bool {
     let (seat, call, said, _) = *turn;
     is_event(&step.event, seat, call) && is_reply(&step.reply, said)
 }
@@ -155,7 +158,7 @@ fn take_turn<N: Naming, R: Abort + Wait>(
     replica: &SharedReplica<N>,
     pass: &mut Pass<N>,
     entries: &[Entry],
-    turn: &Turn,
+    turn: &AnsweredCall,
     executed: u128,
 ) -> bool {
     let (_, call, said, _) = *turn;

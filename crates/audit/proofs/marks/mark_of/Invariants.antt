@@ -7,4 +7,4 @@ use Rattle.audit.proofs.marks.mark_of.Given as goal
 
 abbrev pub invariant-loop-column : goal.invariant-loop-column
 invariant-loop-column l =
-    fold folding.write l.state (map value_text (values_in (drop l.column-index l.column-items) l.row)) ≡ fold folding.write (folding.write l.hash (l.index ∷ [])) (map value_text (values_in l.columns l.row))
+    fold folding.write l.state (map value_text (values_in (drop l.column-index l.column-items) l.words)) ≡ fold folding.write (folding.write l.hash (l.index ∷ [])) (map value_text (values_in l.columns l.words))

@@ -6,5 +6,5 @@ use Rattle.fault_places.proofs.places.report_all.Goals as goal
 pub loop-i-preserved : goal.loop-i-preserved
 loop-i-preserved c = record {
   within = within_next _ _ _ _ _ c.after-standing.ensures c.loop-i.invariant.within;
-  told = entries_next _ _ _ _ _ _ _ _ _ _ _ _ _ _ (lines_from c.args.lines.now c.loop-i.i _ (omega arith)) c.in_ok-report_entry.ensures c.channel_after-name.ensures c.after-standing.ensures c.loop-i.invariant.told;
+  told = entries_next _ _ _ _ _ _ _ _ _ _ _ _ _ _ _ (lines_from c.args.lines.now c.loop-i.i _ (omega arith)) c.in_ok-report_entry.ensures c.channel_after-name.ensures c.after-standing.ensures c.loop-i.invariant.told;
 }

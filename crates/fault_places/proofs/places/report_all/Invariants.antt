@@ -7,6 +7,6 @@ abbrev pub invariant-loop-i : goal.invariant-loop-i
 invariant-loop-i l = record {
   within : IsWithin l.standing l.i;
   told :
-      l.out.items ++ report_entries l.tables.schema.now l.gtid l.wanted l.name l.standing (l.i + 1) (map (λ x. x.now) (drop l.i l.lines))
+      l.out.items ++ report_entries l.tables.schema.now l.gtid l.wanted l.before l.name l.standing (l.i + 1) (map (λ x. x.now) (drop l.i l.lines))
       ≡ l.fn.out.items ++ places_of l.tables.schema.now l.gtid l.wanted (map (λ x. x.now) l.lines);
 }

@@ -1,7 +1,6 @@
 use Rattle.std.proofs.Common.{rules, ◌≡◌, true, sym, subst}
 use Rattle.std.specs.Prelude.{Result, Ok}
 use Rattle.rows.specs.declared.limits.Limits.{Limits}
-use Rattle.rows.specs.declared.limits.Limits.TheVariants.{Narrow}
 use Rattle.txn_journal.specs.ChangeLines.{change_in}
 use Rattle.txn_journal.specs.Drafts.{standing}
 use Rattle.txn_journal.specs.Machine.{is_within}
@@ -17,8 +16,8 @@ use Rattle.txn_journal.proofs.bundle_draft.BundleDraft.take_change.Goals as goal
 pub returns-then-eq-2 : goal.returns-then-eq-2
 returns-then-eq-2 c =
     let part : c.args.self.now.part ≡ parts.Journal = search rules in
-    let narrow : limits_of (standing c.args.self.now.draft).version ≡ Narrow = search rules in
+    let same : limits_of (standing c.args.self.now.draft).version ≡ c.args.limits = search rules in
     let within : is_within (standing c.args.self.now.draft).place ≡ true = search rules in
-    let written = subst (λ (l : Limits). change_in l c.args.line.now ≡ Ok c.args.change) (sym narrow) c.requires in
+    let written = subst (λ (l : Limits). change_in l c.args.line.now ≡ Ok c.args.change) (sym same) c.requires in
     subst (λ (r : Result BundleStanding Cause). TakesLine IsFullBundle c.add_change.result r (bundle_standing c.add_change.new.self))
     (sym (bundle_adds (bundle_standing c.args.self.now) c.args.line.now c.args.change written part within)) c.add_change.ensures

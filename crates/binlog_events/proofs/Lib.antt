@@ -1,0 +1,4 @@
+pub mod Naming
+pub mod Sets
+pub mod Listed
+pub mod OneList

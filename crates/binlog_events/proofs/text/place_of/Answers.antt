@@ -1,0 +1,11 @@
+use Rattle.std.proofs.Common.{sym, arith}
+use Rattle.std.specs.Prelude.{◌==◌}
+use Rattle.std.proofs.lemmas.List.Sums.{position_or_len_is}
+use Rattle.std.proofs.lemmas.Bool.Decides.{nat_tests}
+use Rattle.binlog_events.proofs.text.place_of.Goals as goal
+
+pub returns-then-byte-wanted-clause-place : goal.returns-then-byte-wanted-clause-place
+returns-then-byte-wanted-clause-place c = sym (position_or_len_is (λ b. b == c.args.wanted) c.args.text.now c.loop-i.i 0 (omega arith) c.loop-i.invariant (λ _. grind (arith, nat_tests)))
+
+pub returns-clause-place : goal.returns-clause-place
+returns-clause-place c = sym (position_or_len_is (λ b. b == c.args.wanted) c.args.text.now _ 0 (omega arith) (λ k h. c.loop-i.invariant k (omega arith)) (λ h. absurd (omega (arith, h))))

@@ -1,0 +1,10 @@
+pub mod Texts
+pub mod Kinds
+pub mod Numbers
+pub mod Bodies
+pub mod Gtids
+pub mod Previous
+pub mod Names
+pub mod Lines
+pub mod Listing
+pub mod Laws

@@ -1,0 +1,9 @@
+pub mod SumRange
+pub mod Spelled
+pub mod Events
+pub mod Described
+pub mod Stepping
+pub mod Running
+pub mod Damage
+pub mod Placing
+pub mod ReadOn

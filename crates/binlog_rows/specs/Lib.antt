@@ -1,0 +1,4 @@
+pub mod Numbers
+pub mod Columns
+pub mod Images
+pub mod Rows
