@@ -35,7 +35,7 @@ executed_word() {
 
 # The binary logs of servers 1 and 2 as a bundle.
 bundle() {
-  echo "bundle 2"
+  echo "bundle 3"
   echo "replica $(ask 3 'SELECT @@server_uuid')"
   echo "opening $opening"
   (echo "SET @db = 'shop';" && cat "$here/tables.sql") | mysql_cli 1 -N -r

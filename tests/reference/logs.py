@@ -6,7 +6,7 @@ import re
 from collections.abc import Iterator
 from dataclasses import dataclass, field
 
-from .formats import Bundle, Channel, Entry, Journal, Refused, bundle_lines, read_bundle
+from .formats import Bundle, Channel, Entry, Journal, Refused, assumption_order, bundle_lines, read_bundle
 from .gtids import Gtid, GtidSet, gtid_in, set_in
 from .rows import Change, Row, Value
 
@@ -199,7 +199,7 @@ class Imported:
 
     lines: list[str]
     granted: set[str]
-    notes: list[str] = field(default_factory=list)
+    assumed: list[str] = field(default_factory=list)
 
     def head(self) -> Bundle:
         """The bundle that the lines before the first channel begin; a refusal has the number of its line among all lines."""
@@ -209,17 +209,17 @@ class Imported:
             if text.startswith("unsupported "):
                 self.pass_over(text)
         try:
-            return read_bundle("".join(f"{it}\n" for it in [*(self.lines[at] for at in places), "done"]), {"2", "3"})
+            return read_bundle("".join(f"{it}\n" for it in [*(self.lines[at] for at in places), "done"]), {"3"})
         except Refused as refused:
             line = re.sub(r"(?<=line )\d+", lambda it: str([*places, end][int(it[0]) - 1] + 1), refused.line)
             raise Refused(line) from None
 
     def pass_over(self, text: str) -> None:
         """Passes over what the bundle can't hold, where that is granted."""
-        what, _, place = text.removeprefix("unsupported ").partition(" ")
+        what = text.split(" ")[1]
         if what != "foreign-key" or "--without-foreign-keys" not in self.granted:
             raise Refused(f"refused import {text}")
-        self.notes.append(f"assume references {place}: foreign keys aren't looked at")
+        self.assumed = ["references"]
 
     def own(self, first: int) -> Iterator[int]:
         """The places of the bundle's own lines, from this one on."""
@@ -242,17 +242,28 @@ class Imported:
             channel = Channel(name, preserve, read_log(bundle.opening, at + 2, self.lines[at + 1 : behind]))
             bundle.channels.append(channel)
             if executed is None:
-                self.notes.append(f"assume executed {name}: a log that ends early can't be seen")
+                self.assumed.append(f"executed {name}")
                 continue
             said.append((channel, executed))
             lacks = bundle.opening - executed
             if lacks:
-                self.notes.append(f"assume opening {name} {lacks}: this server hasn't executed it; the verdict speaks of servers that have")
+                self.assumed.append(f"opening {name} {lacks}")
+        self.assume(bundle, places)
         for channel, executed in said:
             lost = executed - bundle.opening - channel.journal.whole()
             if lost:
                 raise Refused(f"refused import executed {channel.name} {lost}")
         return bundle
+
+
+    def assume(self, bundle: Bundle, places: list[int]) -> None:
+        """What is assumed, before the last line, which has to come, and behind what the head itself has assumed."""
+        if not places or self.lines[places[-1]] != "done":
+            return
+        last = bundle.assumptions[-1:]
+        bundle.assumptions += sorted(self.assumed, key=assumption_order)
+        if last and self.assumed and not assumption_order(last[0]) < assumption_order(bundle.assumptions[-1]):
+            raise Refused(f"refused E14 line {places[-1] + 1} body")
 
 
 def imported(text: str, options: list[str]) -> tuple[str, int, str]:
@@ -262,6 +273,4 @@ def imported(text: str, options: list[str]) -> tuple[str, int, str]:
         bundle = found.bundle()
     except Refused as refusal:
         return "", 1, f"{refusal.line}\n"
-    # (a head of version 3 has no channels)
-    version = 3 if bundle.version == "3" and (bundle.schema or bundle.assumptions) else 2
-    return "".join(f"{it}\n" for it in bundle_lines(bundle, version)), 0, "".join(f"{it}\n" for it in found.notes)
+    return "".join(f"{it}\n" for it in bundle_lines(bundle, 3)), 0, ""

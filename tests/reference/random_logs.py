@@ -128,6 +128,7 @@ class BundleOfLogs:
     def __init__(self, chance: Random) -> None:
         self.chance, self.maker = chance, LogMaker(chance)
         self.options: list[str] = []
+        self.version = "3"
         self.opening = GtidSet.of(Gtid(uuid("e"), it) for it in range(1, chance.randrange(1, 4)))
         self.head = ["table orders 3 pk 0 uk 1", "table t 2 pk 0"]
         self.files: dict[str, list[list[str]]] = {}
@@ -149,7 +150,7 @@ class BundleOfLogs:
 
     def text(self) -> str:
         """The whole text."""
-        lines = ["bundle 2", f"replica {uuid('d')}", f"opening {self.opening.word()}", *self.head]
+        lines = [f"bundle {self.version}", f"replica {uuid('d')}", f"opening {self.opening.word()}", *self.head]
         for name, files in self.files.items():
             executed = self.executed[name]
             lines.append(f"channel {name}" + ("" if executed is None else f" executed {executed.word()}"))
@@ -226,6 +227,16 @@ class BundleOfLogs:
             while file[at + 1].startswith("### "):
                 del file[at + 1]
 
+    def older(self) -> None:
+        """The head is of a version that isn't taken."""
+        self.version = self.chance.choice("124")
+
+    def hidden(self) -> None:
+        """The head has a hidden column, and a reference to a key."""
+        self.head = [it.replace("table orders 3 pk 0 uk 1", "table orders 3 pk 0 uk 1 hidden 1") for it in self.head]
+        places = [at for at, it in enumerate(self.head, 1) if it.startswith("table ")]
+        self.head.insert(places[-1], self.chance.choice(["fk t 1 orders 0", "fk orders 2 orders 1 cascade"]))
+
     def nothing(self) -> None:
         """No damage."""
 
@@ -233,6 +244,7 @@ class BundleOfLogs:
 DAMAGE: list[Callable[[BundleOfLogs], None]] = [
     BundleOfLogs.nothing, BundleOfLogs.without_rows, BundleOfLogs.rows_lost, BundleOfLogs.file_lost, BundleOfLogs.end_lost, BundleOfLogs.more_executed,
     BundleOfLogs.nobody_asked, BundleOfLogs.not_opened, BundleOfLogs.unsupported, BundleOfLogs.other_server, BundleOfLogs.statement_open,
+    BundleOfLogs.older, BundleOfLogs.hidden,
 ]
 
 

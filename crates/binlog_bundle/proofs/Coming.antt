@@ -1,5 +1,5 @@
 -- Channels that come, one after another.
-use Rattle.std.proofs.Common.{◌≡◌, ◌≢◌, ℕ, true, List, [], ◌∷◌, ◌++◌, Option, Some, None, codes, refl, sym, ap, ◌∙◌, subst, append_assoc, append-nil, inl, inr, slice_get, ◌≤◌, length, arith}
+use Rattle.std.proofs.Common.{◌≡◌, ◌≢◌, ℕ, Bool, true, List, [], ◌∷◌, ◌++◌, Option, Some, None, codes, refl, sym, ap, ◌∙◌, subst, append_assoc, append-nil, inl, inr, slice_get, ◌≤◌, length, arith}
 use Rattle.std.specs.List.{flat_map}
 use Rattle.lemmas.proofs.Lists.{all_push}
 use Rattle.gtid_set.specs.Sets.{Gtids}
@@ -8,26 +8,30 @@ use Rattle.gtid_set.specs.declared.fault.SetFault.TheVariants.{Memory, PoolFull,
 use Rattle.txn_journal.specs.BundleReading.{BundleProgress}
 use Rattle.txn_journal.specs.BundleReaders.{bundle_reading}
 use Rattle.txn_journal.specs.BundleStates.{BundleValue}
-use Rattle.txn_journal.specs.BundleText.{preserve_text, WritesBundle}
+use Rattle.txn_journal.specs.BundleText.{WritesBundle, WritesBundleBy}
 use Rattle.txn_journal.specs.Stream.{next_number}
 use Rattle.txn_journal.specs.Words.{BeginsWithLine}
 use Rattle.txn_journal.specs.declared.fault.JournalFault.{JournalFault}
 use Rattle.txn_journal.specs.declared.fault.JournalFault.TheVariants as faults
+use Rattle.txn_journal.specs.declared.lines.Due.TheVariants.{Only}
+use Rattle.txn_journal.specs.declared.lines.Version.TheVariants.{Three}
 use Rattle.binlog_entries.proofs.TransactionLaws.{flat_map_more}
-use Rattle.binlog_bundle.specs.Lines.{with_line_feed, is_channel, lines_in, IsCut}
-use Rattle.binlog_bundle.specs.Notes.{IsNoteFault}
-use Rattle.binlog_bundle.specs.Executed.{IsCutLine, SaysExecuted, HadExecuted, IsNoSet, AreWithin, HasLack, HasFullLack, IsFullAt}
-use Rattle.binlog_bundle.specs.Bundles.{done_line, ImportedLog, log_text, journal_text, IsStart, IsImported, Corresponds, said, DescribesBundle, ImportsBundle, BeginsLast, Nowhere, Last}
-use Rattle.binlog_bundle.specs.Refused.{fault_at_line, fault_in_head, channel_fault_at, IsFed, StopsAt, IsTaken, IsRefused, IsOfLine, end_for, IsNoHead, HasTaken, IsLast, IsNoNext, HasChannel, HasNext, HasWord, HasLog, HasMore, CantFollow, HasJournalFault, IsFull, InHead, InLine, InWord, InNote, InLack, IsNoOwn, IsNoneOf, IsNoBundle}
+use Rattle.binlog_bundle.specs.Lines.{with_line_feed, is_channel, lines_in, BeginsOwn, IsCut}
+use Rattle.binlog_bundle.specs.Notes.{notes_for}
+use Rattle.binlog_bundle.specs.Assumed.{IsSaidBefore, IsPartFault}
+use Rattle.binlog_bundle.specs.Heads.{IsPlainHead}
+use Rattle.binlog_bundle.specs.Executed.{IsCutLine, HadExecuted, IsNoSet, AreWithin, HasLack, HasFullLack, IsFullAt}
+use Rattle.binlog_bundle.specs.Bundles.{done_line, ImportedLog, log_text, journal_text, IsStart, IsImported, Corresponds, said, all_assumed, assumed_for, DescribesBundle, ImportsBundle, BeginsLast, Nowhere, Last}
+use Rattle.binlog_bundle.specs.Refused.{fault_at_line, fault_in_head, channel_fault_at, IsFed, StopsAt, IsTaken, IsRefused, IsHeadRefused, IsOfLine, end_for, IsNoHead, HasTaken, IsLast, IsNoNext, HasChannel, HasNext, HasWord, HasLog, HasMore, CantFollow, HasJournalFault, IsFull, InHead, InLine, InWord, InPart, InLack, IsNoOwn, IsNoneOf, IsNoBundle}
 use Rattle.binlog_bundle.specs.Tables.{HasNoOther}
-use Rattle.binlog_bundle.specs.Channels.{HasHead, HasRead, HasCome, FeedsChannel, IsWordRead, IsWordRefused, IsJournalFault, IsLineTaken, IsSaidTaken, CantTake, NoMemory, Stops, NotSet, FullNote, CantJoin, CantFeedLog, CantFeedChannel, IsDescribed}
+use Rattle.binlog_bundle.specs.Channels.{HasHead, HasRead, HasCome, FeedsChannel, IsWordRead, IsWordRefused, IsJournalFault, IsLineTaken, IsSaidTaken, CantTake, NoMemory, Stops, NotSet, FullPart, CantJoin, CantFeedLog, CantFeedChannel, IsDescribed}
 use Rattle.binlog_bundle.specs.declared.fault.ChannelFault.{ChannelFault}
 use Rattle.binlog_bundle.specs.declared.fault.ChannelFault.TheVariants as channels
 use Rattle.binlog_bundle.specs.declared.channels.ImportProgress.{ImportProgress}
 use Rattle.binlog_bundle.specs.declared.grants.Grants.{Grants}
 use Rattle.binlog_bundle.proofs.Cutting.{done_begins}
 use Rattle.binlog_bundle.proofs.Counting.{as_many_journals}
-use Rattle.binlog_bundle.proofs.Feeding.{is_taken, refused_more}
+use Rattle.binlog_bundle.proofs.Feeding.{is_taken, refused_more, head_stops}
 
 -- the number of the line with which what is left begins
 abbrev pub IsLineAt : List ℕ → List ℕ → ℕ → Type 0
@@ -58,11 +62,11 @@ said_more cs c xs ys e f = f ∙ ap (λ (zs : List (Option Gtids)). zs ++ c.exec
 
 -- ---- what has come
 
-pub come_head : (grants : Grants) (start : BundleValue) (head plain text left : List ℕ) (p : ImportProgress) → HasHead grants text head plain p.notes.items left → IsStart plain start → HasRead p plain → p.executed.items ≡ [] → HasCome grants start text left p
-come_head grants start head plain text left p h has fed none = record {
+pub come_head : (grants : Grants) (start : BundleValue) (head plain text left : List ℕ) (p : ImportProgress) → HasHead grants text head plain p.passed_over left → IsStart plain start → HasRead p plain
+    → p.executed.items ≡ [] → p.assumed.items ≡ [] → p.notes.items ≡ [] → HasCome grants start text left p
+come_head grants start head plain text left p h has fed none nothing silent = record {
   head = head;
   plain = plain;
-  head_notes = p.notes.items;
   alone = h.cut.none;
   plain_head = h.plain_head;
   has = has;
@@ -74,7 +78,8 @@ come_head grants start head plain text left p h has fed none = record {
   begins = h.cut.begins;
   fed = fed;
   says = none;
-  noted = sym (append-nil p.notes.items);
+  assumed = nothing;
+  noted = silent;
 }
 
 channel_parts : (line after log behind : List ℕ) → IsCut after log behind → with_line_feed line ++ after ≡ (with_line_feed line ++ log) ++ behind
@@ -83,19 +88,19 @@ channel_parts line after log behind cut = ap (λ (xs : List ℕ). with_line_feed
 pub come_more : (grants : Grants) (start : BundleValue) (text left line after log behind : List ℕ) (old new : ImportProgress) → is_channel line ≡ true
     → HasCome grants start text left old → left ≡ with_line_feed line ++ after → IsCut after log behind → FeedsChannel grants start line log old new → HasCome grants start text behind new
 come_more grants start text left line after log behind old new channel come begins cut f =
-    let note = f.note in
-    let c : ImportedLog = record { line = line; own = f.own; executed = f.executed; log = log; journal = f.brings.journal; varied = f.varied; notes = note } in
+    let assumes = assumed_for start f.own f.executed in
+    let note = notes_for start f.own f.varied in
+    let c : ImportedLog = record { line = line; own = f.own; executed = f.executed; log = log; journal = f.brings.journal; varied = f.varied; assumed = assumes; notes = note } in
     record {
       head = come.head;
       plain = come.plain;
-      head_notes = come.head_notes;
       alone = come.alone;
-      plain_head = come.plain_head;
+      plain_head = subst (IsPlainHead grants come.head come.plain) (sym f.same_head) come.plain_head;
       has = come.has;
       channels = come.channels ++ c ∷ [];
       front = come.front ++ log_text c;
       written = come.written ++ journal_text c;
-      corresponds = stands_more grants come.head come.plain come.front come.written come.channels c come.corresponds (record { start = start; has = come.has; channel = channel; says = f.says; alone = cut.none; imports = f.brings.imports; notes_are = f.note_is });
+      corresponds = stands_more grants come.head come.plain come.front come.written come.channels c come.corresponds (record { start = start; has = come.has; channel = channel; says = f.says; alone = cut.none; imports = f.brings.imports; assumed_are = refl; notes_are = refl });
       parts =
           come.parts
           ∙ ap (λ (xs : List ℕ). come.front ++ xs) (begins ∙ channel_parts line after log behind cut)
@@ -103,15 +108,12 @@ come_more grants start text left line after log behind old new channel come begi
       begins = cut.begins;
       fed = subst (HasRead new) (append_assoc come.written (with_line_feed f.own) f.brings.journal) (f.brings.fed (come.written ++ with_line_feed f.own) (f.fed come.written come.fed));
       says = said_more come.channels c old.executed.items new.executed.items come.says f.said;
-      noted =
-          f.noted
-          ∙ ap (λ (xs : List ℕ). xs ++ note) come.noted
-          ∙ append_assoc come.head_notes (flat_map (λ (c : ImportedLog). c.notes) come.channels) note
-          ∙ ap (λ (xs : List ℕ). come.head_notes ++ xs) (sym (flat_map_more (λ (c : ImportedLog). c.notes) come.channels c));
+      assumed = f.assumed ∙ ap (λ (xs : List (List ℕ)). xs ++ assumes) come.assumed ∙ sym (flat_map_more (λ (c : ImportedLog). c.assumed) come.channels c);
+      noted = f.noted ∙ ap (λ (xs : List ℕ). xs ++ note) come.noted ∙ sym (flat_map_more (λ (c : ImportedLog). c.notes) come.channels c);
     }
 
 taken_of : (grants : Grants) (start : BundleValue) (text left : List ℕ) (p : ImportProgress) (come : HasCome grants start text left p) → HasTaken grants come.head come.plain come.front come.written left text
-taken_of grants start text left p come = record { alone = come.alone; notes = come.head_notes; plain_head = come.plain_head; channels = come.channels; corresponds = come.corresponds; parts = come.parts; begins = come.begins; taken = is_taken come.written (bundle_reading p.reader) come.fed }
+taken_of grants start text left p come = record { alone = come.alone; passed_over = p.passed_over; plain_head = come.plain_head; channels = come.channels; corresponds = come.corresponds; parts = come.parts; begins = come.begins; taken = is_taken come.written (bundle_reading p.reader) come.fed }
 
 -- ---- why no more has come
 
@@ -135,10 +137,10 @@ journal_at grants (faults.Set fault) n text h = (n, h)
 journal_at grants (faults.Line m cause) n text h = (m, h)
 journal_at grants (faults.Truncated m) n text h = absurd h.follow.stops
 
--- a line of the bundle's own is refused
+-- the line of a channel is refused
 line_refused : (grants : Grants) (start : BundleValue) (text left line after own : List ℕ) (word : Option (List ℕ)) (p : ImportProgress) (fault : JournalFault) (n : ℕ) (come : HasCome grants start text left p)
-    → BeginsWithLine left line after → IsCutLine line own word → StopsAt fault (come.written ++ with_line_feed own) → IsLineAt text left n → IsNoOwn grants (fault_at_line fault n) text
-line_refused grants start text left line after own word p fault n come begins cut stops at = own_at grants fault n text (inl (record {
+    → BeginsWithLine left line after → is_channel line ≡ true → IsCutLine line own word → StopsAt fault (come.written ++ with_line_feed own) → IsLineAt text left n → IsNoOwn grants (fault_at_line fault n) text
+line_refused grants start text left line after own word p fault n come begins channel cut stops at = own_at grants fault n text (inl (record {
   head = come.head;
   plain = come.plain;
   front = come.front;
@@ -148,6 +150,7 @@ line_refused grants start text left line after own word p fault n come begins cu
   next = line;
   after = after;
   begins = begins;
+  channel = channel;
   own = own;
   word = word;
   cut = cut;
@@ -167,43 +170,68 @@ is_last : (left own behind : List ℕ) → BeginsLast left → left ≡ own ++ b
 is_last left own behind (Nowhere e) parts first = inr (front_nil own behind (sym e ∙ parts))
 is_last left own behind (Last after e) parts first = inl (first (codes "done") after (done_begins left after e)).0
 
+-- what is said before what is left is said of what has come
+says_of : (grants : Grants) (start : BundleValue) (text left other said : List ℕ) (p : ImportProgress) (come : HasCome grants start text left p) → left ≡ other → IsSaidBefore left p.assumed.items p.passed_over said → IsSaidBefore other (all_assumed come.channels) p.passed_over said
+says_of grants start text left other said p come e says = subst (λ (xs : List ℕ). IsSaidBefore xs (all_assumed come.channels) p.passed_over said) e (subst (λ (ls : List (List ℕ)). IsSaidBefore left ls p.passed_over said) come.assumed says)
+
+-- what has come, where what is left is in two parts
+abbrev taken_before : (grants : Grants) (start : BundleValue) (text left other : List ℕ) (p : ImportProgress) (come : HasCome grants start text left p) → left ≡ other → HasTaken grants come.head come.plain come.front come.written other text
+taken_before grants start text left other p come e = record {
+  alone = come.alone;
+  passed_over = p.passed_over;
+  plain_head = come.plain_head;
+  channels = come.channels;
+  corresponds = come.corresponds;
+  parts = come.parts ∙ ap (λ (xs : List ℕ). come.front ++ xs) e;
+  begins = subst BeginsOwn e come.begins;
+  taken = is_taken come.written (bundle_reading p.reader) come.fed;
+}
+
 -- what comes after the last line is refused, or that there is none
-pub end_refused : (grants : Grants) (start : BundleValue) (text left own behind : List ℕ) (p : ImportProgress) (q : BundleProgress) (fault : JournalFault) (n : ℕ) → BeginsLast left → HasCome grants start text left p → left ≡ own ++ behind → SplitsFirst left own behind
-    → ((before : List ℕ) → HasRead p before → IsFed q (before ++ own)) → ((before : List ℕ) → IsFed q before → IsRefused fault (before ++ behind)) → IsLineAt text behind n → IsNoOwn grants (fault_at_line fault n) text
-end_refused grants start text left own behind p q fault n last come parts first fed stops at =
+pub end_refused : (grants : Grants) (start : BundleValue) (text left own behind said : List ℕ) (p : ImportProgress) (q : BundleProgress) (fault : JournalFault) (n : ℕ) → BeginsLast left → HasCome grants start text left p → left ≡ own ++ behind → SplitsFirst left own behind → IsSaidBefore left p.assumed.items p.passed_over said
+    → ((before : List ℕ) → HasRead p before → IsFed q (before ++ (said ++ own))) → ((before : List ℕ) → IsFed q before → IsRefused fault (before ++ behind)) → IsLineAt text behind n → IsNoOwn grants (fault_at_line fault n) text
+end_refused grants start text left own behind said p q fault n last come parts first says fed stops at =
     let fed_own = fed come.written come.fed in
-    own_at grants fault n text (inr (record {
+    own_at grants fault n text (inr (inr (record {
       head = come.head;
       plain = come.plain;
       front = come.front;
       written = come.written;
       last = own;
       behind = behind;
-      come = subst (λ (xs : List ℕ). HasTaken grants come.head come.plain come.front come.written xs text) parts (taken_of grants start text left p come);
+      come = taken_before grants start text left (own ++ behind) p come parts;
       ends = is_last left own behind last parts first;
-      taken = is_taken (come.written ++ own) q fed_own;
-      stops = subst (IsRefused fault) (append_assoc come.written own behind) (stops (come.written ++ own) fed_own);
+      assumes = said;
+      says = says_of grants start text left (own ++ behind) said p come parts says;
+      taken = is_taken (come.written ++ (said ++ own)) q fed_own;
+      stops = subst (IsRefused fault) (append_assoc come.written (said ++ own) behind) (stops (come.written ++ (said ++ own)) fed_own);
       number = at (come.front ++ own) (come.parts ∙ ap (λ (xs : List ℕ). come.front ++ xs) parts ∙ sym (append_assoc come.front own behind));
-    }))
+    })))
 
--- the last line is no channel's
-last_alone : (front word : List ℕ) → SaysExecuted (codes "done") front word → ⊥
-last_alone front word says =
-    let bad : 100 ∷ codes "one" ≡ 99 ∷ (codes "hannel " ++ ((says.name ++ preserve_text says.preserve) ++ (codes " executed " ++ word))) = says.parts ∙ ap (λ (xs : List ℕ). xs ++ (codes " executed " ++ word)) says.own_is in
-    cc
-
--- the last line is refused, or nothing is
-pub last_refused : (grants : Grants) (start : BundleValue) (text left own behind : List ℕ) (p : ImportProgress) (fault : JournalFault) (n : ℕ) → BeginsLast left → HasCome grants start text left p → left ≡ own ++ behind → SplitsFirst left own behind
-    → ((before : List ℕ) → HasRead p before → StopsAt fault (before ++ own)) → IsLineAt text left n → IsNoOwn grants (fault_at_line fault n) text
-last_refused grants start text left own behind p fault n (Last after e) come parts first stops at =
-    let begins = done_begins left after e in
-    let P : List ℕ → Type 0 = λ xs. (before : List ℕ) → HasRead p before → StopsAt fault (before ++ xs) in
-    line_refused grants start text left (codes "done") after (codes "done") None p fault n come begins (refl, last_alone) (subst P (first (codes "done") after begins).0 stops come.written come.fed) at
-last_refused grants start text left own behind p fault n (Nowhere e) come parts first stops at =
+-- the last line is refused, or what is said before it, or nothing is
+pub last_refused : (grants : Grants) (start : BundleValue) (text left own behind said : List ℕ) (p : ImportProgress) (fault : JournalFault) (n : ℕ) → BeginsLast left → HasCome grants start text left p → left ≡ own ++ behind → SplitsFirst left own behind → IsSaidBefore left p.assumed.items p.passed_over said
+    → ((before : List ℕ) → HasRead p before → StopsAt fault (before ++ (said ++ own))) → IsLineAt text left n → IsNoOwn grants (fault_at_line fault n) text
+last_refused grants start text left own behind said p fault n (Last after e) come parts first says stops at =
+    let is : own ≡ done_line = (first (codes "done") after (done_begins left after e)).0 in
+    own_at grants fault n text (inr (inl (record {
+      head = come.head;
+      plain = come.plain;
+      front = come.front;
+      written = come.written;
+      after = after;
+      come = taken_before grants start text left (done_line ++ after) p come e;
+      assumes = said;
+      says = says_of grants start text left (done_line ++ after) said p come e says;
+      stops = subst (λ (xs : List ℕ). StopsAt fault (come.written ++ (said ++ xs))) is (stops come.written come.fed);
+      number = at come.front come.parts;
+    })))
+last_refused grants start text left own behind said p fault n (Nowhere e) come parts first says stops at =
     let none = front_nil own behind (sym e ∙ parts) in
     let nothing : left ≡ behind = parts ∙ ap (λ (xs : List ℕ). xs ++ behind) none.0 in
-    let same : (xs : List ℕ) → xs ++ own ≡ xs = λ xs. ap (λ (ys : List ℕ). xs ++ ys) none.0 ∙ append-nil xs in
-    end_refused grants start text left own behind p (bundle_reading p.reader) fault n (Nowhere e) come parts first
+    let silent : said ≡ [] = subst (λ (xs : List ℕ). IsSaidBefore xs p.assumed.items p.passed_over said) e says in
+    let both : said ++ own ≡ [] = (λ i. silent i ++ none.0 i) in
+    let same : (xs : List ℕ) → xs ++ (said ++ own) ≡ xs = λ xs. ap (λ (ys : List ℕ). xs ++ ys) both ∙ append-nil xs in
+    end_refused grants start text left own behind said p (bundle_reading p.reader) fault n (Nowhere e) come parts first says
     (λ before fed. subst (HasRead p) (sym (same before)) fed)
     (λ before fed. refused_more fault before behind (subst (StopsAt fault) (same before) (stops before fed)))
     (subst (λ (xs : List ℕ). IsLineAt text xs n) nothing at)
@@ -257,9 +285,9 @@ module _ {grants : Grants} {start : BundleValue} {text left line after log behin
 
   cant_take : (fault : JournalFault) → CantTake grants start line h.come.written fault → IsNoOwn grants (fault_at_line fault n) text
   cant_take fault (NoMemory e) = set_at fault Memory e tt
-  cant_take fault (Stops own word cut stops) = line_refused grants start text left line after own word p fault n h.come h.begins cut stops h.at
+  cant_take fault (Stops own word cut stops) = line_refused grants start text left line after own word p fault n h.come h.begins h.channel cut stops h.at
   cant_take fault (NotSet own word t denied) = not_set own word fault t denied
-  cant_take fault (FullNote own said_here full t denied e) = set_at fault full e (full_at grants full text (InNote (record {
+  cant_take fault (FullPart own said_here full t denied e) = set_at fault full e (full_at grants full text (InPart (record {
     line = n;
     written = h.come.written;
     channel = line;
@@ -302,14 +330,14 @@ module _ {grants : Grants} {start : BundleValue} {text left line after log behin
 
 -- ---- the whole
 
-pub end_found : (grants : Grants) (start : BundleValue) (text left own behind : List ℕ) (p : ImportProgress) (q : BundleProgress) (b : BundleValue) → BeginsLast left → HasCome grants start text left p → left ≡ own ++ behind
-    → ((before : List ℕ) → HasRead p before → IsFed q (before ++ own)) → ((before : List ℕ) → IsFed q before → WritesBundle (before ++ behind) b) → IsDescribed grants text b p.executed.items p.notes.items
-end_found grants start text left own behind p q b last come parts fed writes = record {
+pub end_found : (grants : Grants) (start : BundleValue) (text left own behind said : List ℕ) (p : ImportProgress) (q : BundleProgress) (b : BundleValue) → BeginsLast left → HasCome grants start text left p → left ≡ own ++ behind → IsSaidBefore left p.assumed.items p.passed_over said
+    → ((before : List ℕ) → HasRead p before → IsFed q (before ++ (said ++ own))) → ((before : List ℕ) → IsFed q before → WritesBundle (before ++ behind) b) → IsDescribed grants text b p.executed.items p.notes.items
+end_found grants start text left own behind said p q b last come parts says fed writes = record {
   channels = come.channels;
   describes = record {
     head = come.head;
     plain = come.plain;
-    head_notes = come.head_notes;
+    passed_over = p.passed_over;
     alone = come.alone;
     plain_head = come.plain_head;
     front = come.front;
@@ -318,7 +346,9 @@ end_found grants start text left own behind p q b last come parts fed writes = r
     tail = own ++ behind;
     ends = subst BeginsLast parts last;
     parts = come.parts ∙ ap (λ (xs : List ℕ). come.front ++ xs) parts;
-    writes = subst (λ (xs : List ℕ). WritesBundle xs b) (append_assoc come.written own behind) (writes (come.written ++ own) (fed come.written come.fed));
+    assumes = said;
+    says = says_of grants start text left (own ++ behind) said p come parts says;
+    writes = subst (λ (xs : List ℕ). WritesBundle xs b) (append_assoc come.written (said ++ own) behind ∙ ap (λ (xs : List ℕ). come.written ++ xs) (append_assoc said own behind)) (writes (come.written ++ (said ++ own)) (fed come.written come.fed));
     notes_are = come.noted;
   };
   says = come.says;
@@ -326,7 +356,7 @@ end_found grants start text left own behind p q b last come parts fed writes = r
 
 as_many : (grants : Grants) (text : List ℕ) (cs : List ImportedLog) (b : BundleValue) (notes : List ℕ) → DescribesBundle grants text cs b notes → length cs ≤ length b.journals
 as_many grants text cs b notes d =
-    as_many_journals grants d.plain cs d.tail b d.corresponds.imported (subst (λ (xs : List ℕ). WritesBundle (xs ++ d.tail) b) d.corresponds.written_is d.writes)
+    as_many_journals grants d.plain cs (d.assumes ++ d.tail) b d.corresponds.imported (subst (λ (xs : List ℕ). WritesBundle (xs ++ (d.assumes ++ d.tail)) b) d.corresponds.written_is d.writes)
 
 pub within_found : (grants : Grants) (text : List ℕ) (b : BundleValue) (executed : List (Option Gtids)) (notes : List ℕ) → IsDescribed grants text b executed notes → AreWithin b executed → ImportsBundle grants text b notes
 within_found grants text b executed notes d within = record { channels = d.channels; describes = d.describes; as_many = as_many grants text d.channels b notes d.describes; within = subst (AreWithin b) d.says within }
@@ -350,13 +380,17 @@ none_said b n executed journal says brings = absurd (let bad : None ≡ Some (So
     none_there : (n : ℕ) → slice_get (let xs : List (Option Gtids) = [] in xs) n ≡ None
     none_there n = refl
 
-pub head_found : (grants : Grants) (text head plain notes rest : List ℕ) (b : BundleValue) → HasHead grants text head plain notes rest → rest ≡ [] → WritesBundle (plain ++ end_for rest) b → ImportsBundle grants text b notes
-head_found grants text head plain notes rest b h nothing writes = record {
+-- a bundle of version 3 is one of any
+any_version : (bytes : List ℕ) (b : BundleValue) → WritesBundleBy (Only Three) bytes b → WritesBundle bytes b
+any_version bytes b w = record { lines = w.lines; parts = w.parts; fit = w.fit; written = (w.written.0, refl, w.written.2) }
+
+pub head_found : (grants : Grants) (text head plain notes rest : List ℕ) (passed_over : Bool) (b : BundleValue) → HasHead grants text head plain passed_over rest → rest ≡ [] → notes ≡ [] → WritesBundleBy (Only Three) (plain ++ end_for rest) b → ImportsBundle grants text b notes
+head_found grants text head plain notes rest passed_over b h nothing silent writes = record {
   channels = [];
   describes = record {
     head = head;
     plain = plain;
-    head_notes = notes;
+    passed_over = passed_over;
     alone = h.cut.none;
     plain_head = h.plain_head;
     front = head;
@@ -365,20 +399,22 @@ head_found grants text head plain notes rest b h nothing writes = record {
     tail = rest;
     ends = Nowhere nothing;
     parts = h.cut.parts;
-    writes = subst (λ (xs : List ℕ). WritesBundle (plain ++ xs) b) (ap end_for nothing ∙ sym nothing) writes;
-    notes_are = sym (append-nil notes);
+    assumes = [];
+    says = subst (λ (xs : List ℕ). IsSaidBefore xs [] passed_over []) (sym nothing) refl;
+    writes = subst (λ (xs : List ℕ). WritesBundle (plain ++ xs) b) (ap end_for nothing ∙ sym nothing) (any_version (plain ++ end_for rest) b writes);
+    notes_are = silent;
   };
   as_many = omega arith;
   within = none_said b;
 }
 
-pub head_refused : (grants : Grants) (fault found : JournalFault) (text head plain notes rest : List ℕ) (h : HasHead grants text head plain notes rest) → IsRefused fault (plain ++ end_for rest) → found ≡ fault_in_head h.plain_head.lines fault → IsNoOwn grants found text
-head_refused grants fault found text head plain notes rest h stops is = head_at grants found text (record {
+pub head_refused : (grants : Grants) (fault found : JournalFault) (text head plain rest : List ℕ) (passed_over : Bool) (h : HasHead grants text head plain passed_over rest) → IsHeadRefused fault (plain ++ end_for rest) → found ≡ fault_in_head h.plain_head.lines fault → IsNoOwn grants found text
+head_refused grants fault found text head plain rest passed_over h stops is = head_at grants found text (record {
   head = head;
   rest = rest;
   cut = h.cut;
   plain = plain;
-  notes = notes;
+  passed_over = passed_over;
   plain_head = h.plain_head;
   own = fault;
   stops = stops;
@@ -390,11 +426,13 @@ end_more [] more = absurd (more refl)
 end_more (b ∷ bs) more = refl
 
 -- the reader of channels stops in the head
-pub start_refused : (grants : Grants) (fault found : JournalFault) (text head plain notes rest : List ℕ) (h : HasHead grants text head plain notes rest) → StopsAt fault plain → found ≡ fault_in_head h.plain_head.lines fault → IsNoOwn grants found text
-start_refused grants fault found text head plain notes rest h stops is = head_refused grants fault found text head plain notes rest h (refused_more fault plain (end_for rest) stops) is
+pub start_refused : (grants : Grants) (start : BundleValue) (fault found : JournalFault) (text head plain rest : List ℕ) (passed_over : Bool) (h : HasHead grants text head plain passed_over rest) → rest ≢ [] → IsStart plain start → StopsAt fault plain → found ≡ fault_in_head h.plain_head.lines fault → IsNoOwn grants found text
+start_refused grants start fault found text head plain rest passed_over h more has stops is =
+    head_refused grants fault found text head plain rest passed_over h
+    (subst (λ (xs : List ℕ). IsHeadRefused fault (plain ++ xs)) (sym (end_more rest more)) (head_stops fault plain done_line start (any_version (plain ++ done_line) start has) stops)) is
 
-pub start_of : (plain rest : List ℕ) (start : BundleValue) → rest ≢ [] → WritesBundle (plain ++ end_for rest) start → IsStart plain start
-start_of plain rest start more writes = subst (λ (xs : List ℕ). WritesBundle (plain ++ xs) start) (end_more rest more) writes
+pub start_of : (plain rest : List ℕ) (start : BundleValue) → rest ≢ [] → WritesBundleBy (Only Three) (plain ++ end_for rest) start → IsStart plain start
+start_of plain rest start more writes = subst (λ (xs : List ℕ). WritesBundleBy (Only Three) (plain ++ xs) start) (end_more rest more) writes
 
 -- ---- a log
 
@@ -433,6 +471,6 @@ log_refused grants start line log before own executed (channels.Log fault) t den
 log_refused grants start line log before own executed (channels.Table at) t denied = record { own = own; executed = executed; line_taken = t; cant = denied }
 log_refused grants start line log before own executed (channels.Journal fault) t denied = record { own = own; executed = executed; line_taken = t; cant = denied }
 
-pub note_refused : (grants : Grants) (start : BundleValue) (line before own : List ℕ) (executed : Option Gtids) (fault : SetFault) → IsSaidTaken grants line before own executed → IsNoteFault fault start.opened executed → CantTake grants start line before (faults.Set fault)
-note_refused grants start line before own None fault t denied = NoMemory (ap (λ (f : SetFault). faults.Set f) denied)
-note_refused grants start line before own (Some executed) fault t denied = FullNote own executed fault t denied refl
+pub part_refused : (grants : Grants) (start : BundleValue) (line before own : List ℕ) (executed : Option Gtids) (fault : SetFault) → IsSaidTaken grants line before own executed → IsPartFault fault start.opened executed → CantTake grants start line before (faults.Set fault)
+part_refused grants start line before own None fault t denied = NoMemory (ap (λ (f : SetFault). faults.Set f) denied)
+part_refused grants start line before own (Some executed) fault t denied = FullPart own executed fault t denied refl

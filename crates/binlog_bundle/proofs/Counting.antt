@@ -111,7 +111,7 @@ channels_count grants plain [] ys all = least (lines_with true ys)
 channels_count grants plain (c ∷ cs) ys all =
     let h = channels_count grants plain cs ys all.1 in
     let own = own_begins grants c.line c.own c.executed all.0.channel all.0.says in
-    let ends = journal_ends Two _ all.0.imports.journal in
+    let ends = journal_ends Three _ all.0.imports.journal in
     let behind = journal_behind c.journal ends.0 (flat_map journal_text cs ++ ys) (all.0.imports.spells ∙ ends.1) in
     let k = channel_counts c.own c.journal (flat_map journal_text cs ++ ys) own.0 own.1 behind in
     let m : suc (length cs) ≤ lines_with true (journal_text c ++ (flat_map journal_text cs ++ ys)) = omega (arith, h, k) in
@@ -358,7 +358,8 @@ ends_with false (Plain l ∷ ls) (x ∷ xs) text stand same =
     one_before (Plain l) ls text (ends_with false ls xs text stand rest)
 
 plain_lines : (plain : List ℕ) (start : BundleValue) → IsStart plain start → (ls : List (PlacedLine BundleLine)) × (plain ≡ text_with_places bundle_line_text ls)
-plain_lines plain start w =
+plain_lines plain start h =
+    let w : WritesBundle (plain ++ done_line) start = record { lines = h.lines; parts = h.parts; fit = h.fit; written = (h.written.0, refl, h.written.2) } in
     let made = are_made (plain ++ done_line) start w in
     let same : map bundle_line_text (without_places w.lines) ≡ map bundle_line_text made.front ++ codes "done" ∷ [] = made.texts_are ∙ ap (map bundle_line_text) made.last ∙ map-append bundle_line_text made.front (Own Done ∷ []) in
     let end = ends_with false w.lines made.front (codes "done") w.fit.stand same in (

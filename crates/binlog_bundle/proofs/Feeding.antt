@@ -7,7 +7,7 @@ use Rattle.gtid_set.proofs.FaultLemmas.{fault_map}
 use Rattle.txn_journal.specs.BundleStates.{BundleValue, BundleStanding}
 use Rattle.txn_journal.specs.declared.placed.Placed.{Placed}
 use Rattle.txn_journal.specs.BundleReading.{bundles, BundleProgress, bundle_start, feed_bundle_bytes, closing_bundle, IsFaultOfBundle}
-use Rattle.txn_journal.specs.BundleRefused.{RefusesBundle}
+use Rattle.txn_journal.specs.BundleRefused.{RefusesBundleBy, RefusesBundle}
 use Rattle.txn_journal.specs.BundleText.{WritesBundle}
 use Rattle.txn_journal.specs.Formats.{FeedsBy, closing_by}
 use Rattle.txn_journal.specs.Stream.{Reading, Stopped, next_number, progress_after, feed_byte, feed_bytes, answer, HasFull, Fills, IsPieceFault, IsWhole}
@@ -15,10 +15,11 @@ use Rattle.txn_journal.specs.declared.fault.Cause.{Cause}
 use Rattle.txn_journal.specs.declared.fault.JournalFault.{JournalFault}
 use Rattle.txn_journal.specs.declared.fault.JournalFault.TheVariants as faults
 use Rattle.txn_journal.proofs.Pieces.{eats_append, stopped_stays}
-use Rattle.txn_journal.proofs.FormatLaws.{is_found, is_refused}
+use Rattle.txn_journal.proofs.FormatLaws.{is_found, is_refused, reads_back}
 use Rattle.txn_journal.proofs.BundlePlaces.{IsSoundBundle, bundle_laws}
-use Rattle.txn_journal.specs.declared.lines.Due.TheVariants.{Any}
-use Rattle.binlog_bundle.specs.Refused.{GoesOn, IsFed, IsTaken, StopsAt, IsRefused}
+use Rattle.txn_journal.specs.declared.lines.Due.TheVariants.{Any, Only}
+use Rattle.txn_journal.specs.declared.lines.Version.TheVariants.{Three}
+use Rattle.binlog_bundle.specs.Refused.{GoesOn, IsFed, IsTaken, StopsAt, IsRefused, IsHeadRefused}
 
 -- ---- the fold over the bytes
 
@@ -159,13 +160,23 @@ pub closed_refused : (bytes : List ℕ) (p : BundleProgress) (r : Result BundleV
 closed_refused bytes p (Ok b) e fed = tt
 closed_refused bytes p (Err fault) e fed = closed_is fault bytes (e ∙ ap closing_bundle fed.0)
 
-pub exactly : (fault : JournalFault) (bytes : List ℕ) → RefusesBundle fault bytes → IsWhole (Err fault) (closing_bundle (read bytes)) → IsRefused fault bytes
-exactly (faults.Set fault) bytes h w = h
+-- ---- a head
+
+-- a head that is a bundle's is not refused when it is read again, but where a set is full
+pub head_stops : (fault : JournalFault) (plain end : List ℕ) (start : BundleValue) → WritesBundle (plain ++ end) start → StopsAt fault plain → IsHeadRefused fault (plain ++ end)
+head_stops (faults.Set fault) plain end start has stops = inr (refused_more (faults.Set fault) plain end stops)
+head_stops (faults.Line n cause) plain end start has stops =
+    let bad = sym (refused_more (faults.Line n cause) plain end stops).1 ∙ reads_back (bundles Any) (IsSoundBundle Any) (bundle_laws Any) (plain ++ end) start has in
+    absurd cc
+head_stops (faults.Truncated n) plain end start has stops = absurd stops
+
+exactly : (fault : JournalFault) (bytes : List ℕ) → RefusesBundleBy (Only Three) fault bytes → IsWhole (Err fault) (closing_bundle (feed_bundle_bytes (bundle_start (Only Three)) bytes)) → IsHeadRefused fault bytes
+exactly (faults.Set fault) bytes h w = inl h
 exactly (faults.Line n cause) bytes h (inl x) = absurd (let bad = x.1 in cc)
 exactly (faults.Line n cause) bytes h (inr e) = (h, sym e)
 exactly (faults.Truncated n) bytes h (inl x) = absurd (let bad = x.1 in cc)
 exactly (faults.Truncated n) bytes h (inr e) = (h, sym e)
 
-pub decoded_refused : (bytes whole : List ℕ) (r : Result BundleValue JournalFault) → bytes ≡ whole → IfErr r (λ fault. RefusesBundle fault bytes) → IsWhole r (closing_bundle (read bytes)) → IfErr r (λ fault. IsRefused fault whole)
+pub decoded_refused : (bytes whole : List ℕ) (r : Result BundleValue JournalFault) → bytes ≡ whole → IfErr r (λ fault. RefusesBundleBy (Only Three) fault bytes) → IsWhole r (closing_bundle (feed_bundle_bytes (bundle_start (Only Three)) bytes)) → IfErr r (λ fault. IsHeadRefused fault whole)
 decoded_refused bytes whole (Ok b) e h w = tt
-decoded_refused bytes whole (Err fault) e h w = subst (IsRefused fault) e (exactly fault bytes h w)
+decoded_refused bytes whole (Err fault) e h w = subst (IsHeadRefused fault) e (exactly fault bytes h w)

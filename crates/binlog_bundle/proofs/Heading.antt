@@ -1,7 +1,8 @@
 -- Heads, and their lines `unsupported ..`.
-use Rattle.std.proofs.Common.{◌≡◌, ◌≢◌, ℕ, ◌+◌, ◌-◌, ◌<◌, ◌≤◌, Bool, true, false, not, List, [], ◌∷◌, ◌++◌, length, codes, Option, Some, None, Bor, MatchOption, refl, sym, ap, ◌∙◌, subst, append_assoc, length-append, zero-add, add-zero, arith}
+use Rattle.std.proofs.Common.{◌≡◌, ◌≢◌, ℕ, ◌+◌, ◌-◌, ◌<◌, ◌≤◌, Bool, true, false, not, List, [], ◌∷◌, ◌++◌, length, codes, refl, sym, ap, ◌∙◌, subst, append_assoc, length-append, zero-add, add-zero, arith}
 use Rattle.std.specs.Prelude.{◌&&◌, ◌||◌, nat_eq, nat_le, if◌then◌else◌}
-use Rattle.std.specs.List.{starts_with, flat_map, AllByRecursion}
+use Rattle.std.specs.List.{starts_with, list_any, flat_map, AllByRecursion}
+use Rattle.std.proofs.lemmas.List.Folds.{list_any-append}
 use Rattle.std.proofs.lemmas.Slice.Eq.{starts_is}
 use Rattle.std.proofs.lemmas.Bool.Decides.{Decides-eqb, nat_tests}
 use Rattle.lemmas.proofs.Lists.{all_push}
@@ -9,8 +10,7 @@ use Rattle.lemmas.proofs.Numbers.{le_false}
 use Rattle.txn_journal.specs.Words.{IsOneLine, BeginsWithLine}
 use Rattle.binlog_entries.proofs.TransactionLaws.{flat_map_more}
 use Rattle.binlog_bundle.specs.Lines.{with_line_feed, AreLines}
-use Rattle.binlog_bundle.specs.Notes.{references_note, named_key}
-use Rattle.binlog_bundle.specs.Heads.{is_unsupported, is_granted, plain_text, line_note, IsGranted, IsGrantedKey, NoGrantedKey, IsPlainHead, IsNotGranted, IsNoPlainHead, skipped}
+use Rattle.binlog_bundle.specs.Heads.{is_unsupported, is_granted, plain_text, IsGranted, IsPlainHead, IsNotGranted, IsNoPlainHead, skipped}
 use Rattle.binlog_bundle.specs.declared.head.HeadFault.{HeadFault}
 use Rattle.binlog_bundle.specs.declared.head.HeadFault.TheVariants as heads
 use Rattle.binlog_bundle.specs.declared.grants.Grants.{Grants}
@@ -26,52 +26,35 @@ not_begun text front denied = known (starts_with nat_eq text front) refl
     known true e = absurd (denied _ ((starts_is Decides-eqb text front (starts_with nat_eq text front) refl).0 e))
 
 abbrev pub TakesPlain : Grants → List ℕ → Type 0
-TakesPlain grants line = (is_granted grants line ≡ true) × (plain_text line ≡ with_line_feed line) × (line_note line ≡ [])
+TakesPlain grants line = (is_granted grants line ≡ true) × (plain_text line ≡ with_line_feed line) × (is_unsupported line ≡ false)
 
 pub plain_line : (grants : Grants) (line : List ℕ) → ((rest : List ℕ) → line ≢ codes "unsupported " ++ rest) → TakesPlain grants line
 plain_line grants line denied =
     let e = not_begun line (codes "unsupported ") denied in
-    ((λ i. not (e i) || (grants.without_foreign_keys && starts_with nat_eq line (codes "unsupported foreign-key "))), (λ i. if e i then [] else with_line_feed line), (λ i. if e i then references_note (named_key line) else []))
-
-abbrev pub TakesKey : Grants → List ℕ → List ℕ → Type 0
-TakesKey grants line key = (is_granted grants line ≡ true) × (plain_text line ≡ []) × (line_note line ≡ references_note key)
-
-key_here : (grants : Grants) (key : List ℕ) → grants.without_foreign_keys ≡ true → TakesKey grants (codes "unsupported " ++ (codes "foreign-key " ++ key)) key
-key_here grants key granted = ((λ i. granted i && true), refl, refl)
-
-pub key_line : (grants : Grants) (line what key : List ℕ) → line ≡ codes "unsupported " ++ what → IsGrantedKey grants what key → TakesKey grants line key
-key_line grants line what key e h =
-    let is : codes "unsupported " ++ (codes "foreign-key " ++ key) ≡ line = ap (λ (xs : List ℕ). codes "unsupported " ++ xs) (sym h.1) ∙ sym e in
-    subst (λ (l : List ℕ). TakesKey grants l key) is (key_here grants key h.0)
-
-and_never : (b : Bool) → b && false ≡ false
-and_never true = refl
-and_never false = refl
-
-no_key : (grants : Grants) (what : List ℕ) → ((rest : List ℕ) → what ≢ codes "foreign-key " ++ rest) → NoGrantedKey grants what
-no_key grants what none = (λ i. grants.without_foreign_keys && not_begun what (codes "foreign-key ") none i) ∙ and_never grants.without_foreign_keys
-
-pub key_if_granted : (grants : Grants) (what : List ℕ) (r : Option (Bor (List ℕ))) → grants.without_foreign_keys ≡ true
-    → MatchOption r ((rest : List ℕ) → what ≢ codes "foreign-key " ++ rest) (λ rest. what ≡ codes "foreign-key " ++ rest.now)
-    → MatchOption r (NoGrantedKey grants what) (λ key. IsGrantedKey grants what key.now)
-key_if_granted grants what None granted none = no_key grants what none
-key_if_granted grants what (Some key) granted e = (granted, e)
+    ((λ i. not (e i) || (grants.without_foreign_keys && starts_with nat_eq line (codes "unsupported foreign-key "))), (λ i. if e i then [] else with_line_feed line), e)
 
 -- ---- heads
 
--- some lines of a head have come, and this is the plain text and the notes of them
-pub record HasHeadCome (grants : Grants) (head left text notes : List ℕ) : Type 0 where
+-- some lines of a head have come, and this is the plain text of them, and whether some were passed over
+pub record HasHeadCome (grants : Grants) (head left text : List ℕ) (passed_over : Bool) : Type 0 where
   pub lines : List (List ℕ)
   pub parts : head ≡ flat_map with_line_feed lines ++ left
   pub granted : AllByRecursion (IsGranted grants) lines
   pub text_is : text ≡ flat_map plain_text lines
-  pub notes_are : notes ≡ flat_map line_note lines
+  pub passed : passed_over ≡ list_any is_unsupported lines
 
 all_of : (f : List ℕ → List ℕ) (xs ys : List ℕ) (ls : List (List ℕ)) (line : List ℕ) → xs ≡ flat_map f ls → ys ≡ xs ++ f line → ys ≡ flat_map f (ls ++ line ∷ [])
 all_of f xs ys ls line e g = g ∙ ap (λ (zs : List ℕ). zs ++ f line) e ∙ sym (flat_map_more f ls line)
 
-pub head_more : (grants : Grants) (head left line after text notes text_new notes_new : List ℕ) → HasHeadCome grants head left text notes → BeginsWithLine left line after → is_granted grants line ≡ true → text_new ≡ text ++ plain_text line → notes_new ≡ notes ++ line_note line → HasHeadCome grants head after text_new notes_new
-head_more grants head left line after text notes text_new notes_new h begins granted t n = record {
+pub or_false : (b v : Bool) → v ≡ false → b ≡ (b || v)
+or_false true v e = refl
+or_false false v e = sym e
+
+or_last : (lines : List (List ℕ)) (line : List ℕ) → (list_any is_unsupported lines || is_unsupported line) ≡ list_any is_unsupported (lines ++ line ∷ [])
+or_last lines line = ap (λ (b : Bool). list_any is_unsupported lines || b) (or_false (is_unsupported line) false refl) ∙ sym (list_any-append is_unsupported lines (line ∷ []))
+
+pub head_more : (grants : Grants) (head left line after text text_new : List ℕ) (passed passed_new : Bool) → HasHeadCome grants head left text passed → BeginsWithLine left line after → is_granted grants line ≡ true → text_new ≡ text ++ plain_text line → passed_new ≡ (passed || is_unsupported line) → HasHeadCome grants head after text_new passed_new
+head_more grants head left line after text text_new passed passed_new h begins granted t n = record {
   lines = h.lines ++ line ∷ [];
   parts =
       h.parts
@@ -80,12 +63,12 @@ head_more grants head left line after text notes text_new notes_new h begins gra
       ∙ ap (λ (xs : List ℕ). xs ++ after) (sym (flat_map_more with_line_feed h.lines line));
   granted = all_push (IsGranted grants) h.lines line h.granted (begins.whole, granted);
   text_is = all_of plain_text text text_new h.lines line h.text_is t;
-  notes_are = all_of line_note notes notes_new h.lines line h.notes_are n;
+  passed = n ∙ ap (λ (b : Bool). b || is_unsupported line) h.passed ∙ or_last h.lines line;
 }
 
-pub head_refused : (grants : Grants) (head left line after text notes : List ℕ) (fault : HeadFault) → HasHeadCome grants head left text notes → BeginsWithLine left line after → IsNotGranted grants line fault → IsNoPlainHead grants head fault
-head_refused grants head left line after text notes heads.Memory h begins denied = tt
-head_refused grants head left line after text notes (heads.Unsupported what) h begins denied = record {
+pub head_refused : (grants : Grants) (head left line after text : List ℕ) (passed : Bool) (fault : HeadFault) → HasHeadCome grants head left text passed → BeginsWithLine left line after → IsNotGranted grants line fault → IsNoPlainHead grants head fault
+head_refused grants head left line after text passed heads.Memory h begins denied = tt
+head_refused grants head left line after text passed (heads.Unsupported what) h begins denied = record {
   before = h.lines;
   rest = after;
   parts = h.parts ∙ ap (λ (xs : List ℕ). flat_map with_line_feed h.lines ++ xs) (begins.parts ∙ line_ends line after ∙ ap (λ (l : List ℕ). with_line_feed l ++ after) denied.0);
@@ -94,8 +77,8 @@ head_refused grants head left line after text notes (heads.Unsupported what) h b
   refused = denied.1;
 }
 
-pub head_lines : (grants : Grants) (head plain notes : List ℕ) (h : IsPlainHead grants head plain notes) → AreLines h.lines head
-head_lines grants head plain notes h = record { rest = h.rest; parts = h.parts; whole = whole_of h.lines h.granted; part = h.part }
+pub head_lines : (grants : Grants) (head plain : List ℕ) (passed : Bool) (h : IsPlainHead grants head plain passed) → AreLines h.lines head
+head_lines grants head plain passed h = record { rest = h.rest; parts = h.parts; whole = whole_of h.lines h.granted; part = h.part }
   where
     whole_of : (ls : List (List ℕ)) → AllByRecursion (IsGranted grants) ls → AllByRecursion IsOneLine ls
     whole_of [] all = tt

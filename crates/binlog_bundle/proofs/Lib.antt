@@ -5,5 +5,4 @@ pub mod OwnLines
 pub mod Heading
 pub mod Saying
 pub mod Lacking
-pub mod Noting
 pub mod Counting

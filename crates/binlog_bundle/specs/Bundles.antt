@@ -1,12 +1,15 @@
 -- A bundle whose journals are the texts of logs.
-use Rattle.std.specs.Prelude.{◌≡◌, ◌≤◌, ℕ, true, List, [], ◌++◌, length, map, codes, Option}
+use Rattle.std.specs.Prelude.{◌≡◌, ◌≤◌, ℕ, Bool, true, List, [], ◌++◌, length, map, codes, Option}
 use Rattle.std.specs.List.{flat_map, AllByRecursion}
 use Rattle.gtid_set.specs.Sets.{Gtids}
 use Rattle.txn_journal.specs.BundleStates.{BundleValue}
-use Rattle.txn_journal.specs.BundleText.{WritesBundle}
+use Rattle.txn_journal.specs.BundleText.{WritesBundle, WritesBundleBy}
+use Rattle.txn_journal.specs.declared.lines.Due.TheVariants.{Only}
+use Rattle.txn_journal.specs.declared.lines.Version.TheVariants.{Three}
 use Rattle.binlog_entries.specs.Imports.{Imports}
 use Rattle.binlog_bundle.specs.Lines.{with_line_feed, is_channel, HasNoOwn}
-use Rattle.binlog_bundle.specs.Notes.{notes_for}
+use Rattle.binlog_bundle.specs.Notes.{name_in, notes_for}
+use Rattle.binlog_bundle.specs.Assumed.{assumed_of, IsSaidBefore}
 use Rattle.binlog_bundle.specs.Heads.{IsPlainHead}
 use Rattle.binlog_bundle.specs.Executed.{HadExecuted, AreWithin}
 use Rattle.binlog_bundle.specs.declared.grants.Grants.{Grants}
@@ -20,7 +23,7 @@ pub data BeginsLast (text : List ℕ) : Type 0 where
   Last : (after : List ℕ) → text ≡ done_line ++ after → BeginsLast text
 
 -- A channel's line, that line in the bundle, and what it says was executed; the text of its log, that of the journal which the log
--- describes, and the places of the tables with a key that isn't compared by bytes; and what is noted of the channel.
+-- describes, and the places of the tables with a key that isn't compared by bytes; and what is assumed and noted of the channel.
 pub record ImportedLog : Type 0 where
   pub line : List ℕ
   pub own : List ℕ
@@ -28,6 +31,7 @@ pub record ImportedLog : Type 0 where
   pub log : List ℕ
   pub journal : List ℕ
   pub varied : List ℕ
+  pub assumed : List (List ℕ)
   pub notes : List ℕ
 
 abbrev pub log_text : ImportedLog → List ℕ
@@ -36,9 +40,13 @@ log_text c = with_line_feed c.line ++ c.log
 abbrev pub journal_text : ImportedLog → List ℕ
 journal_text c = with_line_feed c.own ++ c.journal
 
--- this bundle is the one that the plain head alone begins: its tables and opening set
+-- this bundle is the one, of version 3, that the plain head alone begins: its tables and opening set
 abbrev pub IsStart : List ℕ → BundleValue → Type 0
-IsStart plain start = WritesBundle (plain ++ done_line) start
+IsStart plain start = WritesBundleBy (Only Three) (plain ++ done_line) start
+
+-- what is assumed of a channel that has this line in its bundle, by what its server had executed; the bundle is the one that the head begins
+abbrev pub assumed_for : BundleValue → List ℕ → Option Gtids → List (List ℕ)
+assumed_for start line executed = assumed_of (name_in line) start.opened executed
 
 -- the log describes the journal, whose entries change the tables of this head; and the line says what was executed
 pub record IsImported (grants : Grants) (plain : List ℕ) (c : ImportedLog) : Type 0 where
@@ -48,7 +56,8 @@ pub record IsImported (grants : Grants) (plain : List ℕ) (c : ImportedLog) : T
   pub says : HadExecuted grants c.line c.own c.executed
   pub alone : HasNoOwn c.log
   pub imports : Imports start.start.schema start.opened grants.bytes c.log c.journal c.varied
-  pub notes_are : c.notes ≡ notes_for start c.own c.varied c.executed
+  pub assumed_are : c.assumed ≡ assumed_for start c.own c.executed
+  pub notes_are : c.notes ≡ notes_for start c.own c.varied
 
 -- The two texts have the same lines of channels, but for what was executed, and the log of each channel is in the one where the journal
 -- that it describes is in the other. The head of the second is the plain one.
@@ -61,23 +70,29 @@ pub record Corresponds (grants : Grants) (head plain : List ℕ) (channels : Lis
 abbrev pub said : List ImportedLog → List (Option Gtids)
 said channels = map (λ c. c.executed) channels
 
+-- what is assumed of all channels
+abbrev pub all_assumed : List ImportedLog → List (List ℕ)
+all_assumed channels = flat_map (λ c. c.assumed) channels
+
 -- The text is a bundle's but that the log of each channel is in the place of its journal, and that there are lines `unsupported ..` and what
--- was executed. Both end in the same last line. Each log is what is between two lines of the bundle's own, so there is one way to read a
--- text so.
+-- was executed. Both end in the same last line, and before that the bundle has the lines of what is assumed: of its channels, and of its head, if
+-- lines of that were passed over. Each log is what is between two lines of the bundle's own, so there is one way to read a text so.
 pub record DescribesBundle (grants : Grants) (text : List ℕ) (channels : List ImportedLog) (b : BundleValue) (notes : List ℕ) : Type 0 where
   pub head : List ℕ
   pub plain : List ℕ
-  pub head_notes : List ℕ
+  pub passed_over : Bool
   pub alone : HasNoOwn head
-  pub plain_head : IsPlainHead grants head plain head_notes
+  pub plain_head : IsPlainHead grants head plain passed_over
   pub front : List ℕ
   pub written : List ℕ
   pub corresponds : Corresponds grants head plain channels front written
   pub tail : List ℕ
   pub ends : BeginsLast tail
   pub parts : text ≡ front ++ tail
-  pub writes : WritesBundle (written ++ tail) b
-  pub notes_are : notes ≡ head_notes ++ flat_map (λ c. c.notes) channels
+  pub assumes : List ℕ
+  pub says : IsSaidBefore tail (all_assumed channels) passed_over assumes
+  pub writes : WritesBundle (written ++ (assumes ++ tail)) b
+  pub notes_are : notes ≡ flat_map (λ c. c.notes) channels
 
 -- So it describes the bundle, which has a journal for each channel; and what each channel's server had executed, by the channel's line, lies in the
 -- opening set, in what was executed before the channel's journal, and in its entries.

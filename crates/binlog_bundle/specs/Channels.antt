@@ -1,5 +1,5 @@
 -- The channels of a bundle of logs, as far as they have come.
-use Rattle.std.specs.Prelude.{◌≡◌, ℕ, true, false, List, [], ◌∷◌, ◌++◌, Option, Some, None}
+use Rattle.std.specs.Prelude.{◌≡◌, ℕ, Bool, true, false, List, [], ◌∷◌, ◌++◌, Option, Some, None}
 use Rattle.std.specs.FinSet as set
 use Rattle.std.specs.List.{flat_map}
 use Rattle.gtid_set.specs.Full.{IsFaultOf}
@@ -19,30 +19,29 @@ use Rattle.binlog_bundle.specs.Tables.{HasOther, HasNoOther}
 use Rattle.binlog_bundle.specs.Notes.{notes_for}
 use Rattle.binlog_bundle.specs.Heads.{IsPlainHead}
 use Rattle.binlog_bundle.specs.Executed.{IsCutLine, HadExecuted, IsNoSet}
-use Rattle.binlog_bundle.specs.Bundles.{ImportedLog, IsStart, Corresponds, said, DescribesBundle}
+use Rattle.binlog_bundle.specs.Bundles.{ImportedLog, IsStart, Corresponds, said, all_assumed, assumed_for, DescribesBundle}
 use Rattle.binlog_bundle.specs.Refused.{IsFed, IsTaken, StopsAt, IsOfLine}
 use Rattle.binlog_bundle.specs.declared.channels.ImportProgress.{ImportProgress}
 use Rattle.binlog_bundle.specs.declared.grants.Grants.{Grants}
 use Rattle.binlog_bundle.specs.declared.fault.ChannelFault.{ChannelFault}
 use Rattle.binlog_bundle.specs.declared.fault.ChannelFault.TheVariants as channels
 
--- this is the head of the text, with its plain head and the notes on it, and the text from there on
-pub record HasHead (grants : Grants) (text head plain notes rest : List ℕ) : Type 0 where
+-- this is the head of the text, with its plain head, whether lines of it were passed over, and the text from there on
+pub record HasHead (grants : Grants) (text head plain : List ℕ) (passed_over : Bool) (rest : List ℕ) : Type 0 where
   pub cut : IsCut text head rest
-  pub plain_head : IsPlainHead grants head plain notes
+  pub plain_head : IsPlainHead grants head plain passed_over
 
 -- the reader of bundles has read these bytes
 abbrev pub HasRead : ImportProgress → List ℕ → Type 0
 HasRead progress bytes = IsFed (bundle_reading progress.reader) bytes
 
 -- All but what is left of the text has come, and the reader of bundles has read the plain head, which begins this bundle, and the journals in the
--- place of the logs; this is what the channels' lines say was executed, and what is noted.
+-- place of the logs; this is what the channels' lines say was executed, and what is assumed and noted.
 pub record HasCome (grants : Grants) (start : BundleValue) (text left : List ℕ) (progress : ImportProgress) : Type 0 where
   pub head : List ℕ
   pub plain : List ℕ
-  pub head_notes : List ℕ
   pub alone : HasNoOwn head
-  pub plain_head : IsPlainHead grants head plain head_notes
+  pub plain_head : IsPlainHead grants head plain progress.passed_over
   pub has : IsStart plain start
   pub channels : List ImportedLog
   pub front : List ℕ
@@ -52,7 +51,8 @@ pub record HasCome (grants : Grants) (start : BundleValue) (text left : List ℕ
   pub begins : BeginsOwn left
   pub fed : HasRead progress written
   pub says : progress.executed.items ≡ said channels
-  pub noted : progress.notes.items ≡ head_notes ++ flat_map (λ c. c.notes) channels
+  pub assumed : progress.assumed.items ≡ all_assumed channels
+  pub noted : progress.notes.items ≡ flat_map (λ c. c.notes) channels
 
 -- ---- a channel that comes
 
@@ -70,11 +70,15 @@ pub record FeedsLog (grants : Grants) (start : BundleValue) (log : List ℕ) (ol
 abbrev pub IsSaid : ImportProgress → ImportProgress → Option Gtids → Type 0
 IsSaid old new executed = new.executed.items ≡ old.executed.items ++ executed ∷ []
 
+-- these are added to what is assumed
+abbrev pub IsAssumed : ImportProgress → ImportProgress → List (List ℕ) → Type 0
+IsAssumed old new lines = new.assumed.items ≡ old.assumed.items ++ lines
+
 -- these are added to the notes
 abbrev pub IsNoted : ImportProgress → ImportProgress → List ℕ → Type 0
 IsNoted old new notes = new.notes.items ≡ old.notes.items ++ notes
 
--- the line of a channel has come, and the journal that its log describes; this is added to what was executed, and to the notes
+-- the line of a channel has come, and the journal that its log describes; this is added to what was executed, is assumed and noted
 pub record FeedsChannel (grants : Grants) (start : BundleValue) (line log : List ℕ) (old new : ImportProgress) : Type 0 where
   pub own : List ℕ
   pub executed : Option Gtids
@@ -84,9 +88,9 @@ pub record FeedsChannel (grants : Grants) (start : BundleValue) (line log : List
   pub fed : IsFedWith (bundle_reading old.reader) middle (with_line_feed own)
   pub brings : FeedsLog grants start log middle (bundle_reading new.reader) varied
   pub said : IsSaid old new executed
-  pub note : List ℕ
-  pub note_is : note ≡ notes_for start own varied executed
-  pub noted : IsNoted old new note
+  pub assumed : IsAssumed old new (assumed_for start own executed)
+  pub noted : IsNoted old new (notes_for start own varied)
+  pub same_head : new.passed_over ≡ old.passed_over
 
 -- It is this fault, and if that names a line, no line of the log maps a table that is none of these; or one does, and it is the first.
 abbrev pub IsJournalFault : List Table → List ℕ → JournalFault → ChannelFault → Type 0
@@ -124,7 +128,7 @@ pub data CantTake (grants : Grants) (start : BundleValue) (line before : List �
   NoMemory : fault ≡ faults.Set Memory → CantTake grants start line before fault
   Stops : (own : List ℕ) (word : Option (List ℕ)) → IsCutLine line own word → StopsAt fault (before ++ with_line_feed own) → CantTake grants start line before fault
   NotSet : (own word : List ℕ) → IsLineTaken line before own (Some word) → IsNoSet word fault → CantTake grants start line before fault
-  FullNote : (own : List ℕ) (executed : Gtids) (full : SetFault) → IsSaidTaken grants line before own (Some executed) → IsFaultOf full (set.difference start.opened executed) → fault ≡ faults.Set full → CantTake grants start line before fault
+  FullPart : (own : List ℕ) (executed : Gtids) (full : SetFault) → IsSaidTaken grants line before own (Some executed) → IsFaultOf full (set.difference start.opened executed) → fault ≡ faults.Set full → CantTake grants start line before fault
 
 -- the log describes a journal that is refused after these bytes
 pub record CantJoin (grants : Grants) (start : BundleValue) (log before : List ℕ) (fault : JournalFault) : Type 0 where

@@ -1,9 +1,8 @@
 -- The head of a bundle of logs: what comes before its first line of a channel. Lines `unsupported ..` may be among those of the bundle.
 use Rattle.std.specs.Prelude.{◌≡◌, ℕ, ◌+◌, ◌-◌, ◌^◌, min, nat_le, Bool, true, false, not, ◌&&◌, ◌||◌, List, [], ◌∷◌, ◌++◌, codes, nat_eq, if◌then◌else◌}
-use Rattle.std.specs.List.{starts_with, flat_map, AllByRecursion}
+use Rattle.std.specs.List.{starts_with, list_any, flat_map, AllByRecursion}
 use Rattle.txn_journal.specs.Words.{IsOneLine}
 use Rattle.binlog_bundle.specs.Lines.{with_line_feed}
-use Rattle.binlog_bundle.specs.Notes.{references_note, named_key}
 use Rattle.binlog_bundle.specs.declared.grants.Grants.{Grants}
 use Rattle.binlog_bundle.specs.declared.head.HeadFault.{HeadFault}
 use Rattle.binlog_bundle.specs.declared.head.HeadFault.TheVariants as heads
@@ -29,29 +28,22 @@ IsGranted grants line = IsOneLine line × (is_granted grants line ≡ true)
 abbrev pub plain_text : List ℕ → List ℕ
 plain_text line = if is_unsupported line then [] else with_line_feed line
 
--- what is noted of the line
-abbrev pub line_note : List ℕ → List ℕ
-line_note line = if is_unsupported line then references_note (named_key line) else []
-
 -- what a line says is unsupported is a foreign key, and that is granted
-abbrev pub IsGrantedKey : Grants → List ℕ → List ℕ → Type 0
-IsGrantedKey grants what key = (grants.without_foreign_keys ≡ true) × (what ≡ codes "foreign-key " ++ key)
-
-abbrev pub NoGrantedKey : Grants → List ℕ → Type 0
-NoGrantedKey grants what = is_granted grants (codes "unsupported " ++ what) ≡ false
+abbrev pub is_granted_key : Grants → List ℕ → Bool
+is_granted_key grants what = grants.without_foreign_keys && starts_with nat_eq what (codes "foreign-key ")
 
 -- ---- heads
 
--- Each line of the head is the bundle's or granted. The plain head is the head without the lines `unsupported ..`; of these there are the
--- notes.
-pub record IsPlainHead (grants : Grants) (head plain notes : List ℕ) : Type 0 where
+-- Each line of the head is the bundle's or granted. The plain head is the head without the lines `unsupported ..`; whether there are any is
+-- kept.
+pub record IsPlainHead (grants : Grants) (head plain : List ℕ) (passed_over : Bool) : Type 0 where
   pub lines : List (List ℕ)
   pub rest : List ℕ
   pub parts : head ≡ flat_map with_line_feed lines ++ rest
   pub granted : AllByRecursion (IsGranted grants) lines
   pub part : IsOneLine rest
   pub plain_is : plain ≡ flat_map plain_text lines ++ rest
-  pub notes_are : notes ≡ flat_map line_note lines
+  pub passed : passed_over ≡ list_any is_unsupported lines
 
 -- the first line of the head that is neither the bundle's nor granted names this
 pub record IsUnsupported (grants : Grants) (what head : List ℕ) : Type 0 where
@@ -65,7 +57,7 @@ pub record IsUnsupported (grants : Grants) (what head : List ℕ) : Type 0 where
 -- why a line is not taken
 abbrev pub IsNotGranted : Grants → List ℕ → HeadFault → Type 0
 IsNotGranted grants line heads.Memory = Unit {0}
-IsNotGranted grants line (heads.Unsupported what) = (line ≡ codes "unsupported " ++ what.items) × NoGrantedKey grants what.items
+IsNotGranted grants line (heads.Unsupported what) = (line ≡ codes "unsupported " ++ what.items) × (is_granted grants (codes "unsupported " ++ what.items) ≡ false)
 
 -- why a head has no plain one
 abbrev pub IsNoPlainHead : Grants → List ℕ → HeadFault → Type 0

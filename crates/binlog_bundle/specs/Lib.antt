@@ -1,6 +1,7 @@
 pub mod Lines
 pub mod Tables
 pub mod Notes
+pub mod Assumed
 pub mod Heads
 pub mod Executed
 pub mod Bundles

@@ -6,7 +6,7 @@ use Rattle.gtid_set.specs.Sets.{Gtids}
 use Rattle.journal.specs.declared.Entry.{Entry}
 use Rattle.txn_journal.specs.Words.{IsOneLine, BeginsWithLine}
 use Rattle.binlog_entries.specs.Stream.{IsLog}
-use Rattle.binlog_entries.specs.declared.varied.Varied.{Varied}
+use Rattle.log_transactions.specs.declared.varied.Varied.{Varied}
 
 abbrev pub with_line_feed : List ℕ → List ℕ
 with_line_feed line = line ++ 10 ∷ []

@@ -1,5 +1,5 @@
 -- What is no bundle of logs.
-use Rattle.std.specs.Prelude.{◌≡◌, ◌⊎◌, ℕ, true, false, List, [], ◌∷◌, ◌++◌, Option, Some, None, Result, Err, IfOk, IfErr, OnOk}
+use Rattle.std.specs.Prelude.{◌≡◌, ◌⊎◌, ℕ, Bool, true, false, List, [], ◌∷◌, ◌++◌, Option, Some, None, Result, Err, IfOk, IfErr, OnOk}
 use Rattle.gtid_set.specs.Full.{IsFaultOf, IsMemoryOr}
 use Rattle.gtid_set.specs.Sets.{Gtids}
 use Rattle.gtid_set.specs.declared.fault.SetFault.{SetFault}
@@ -7,7 +7,7 @@ use Rattle.gtid_set.specs.declared.fault.SetFault.TheVariants.{PoolFull, Sources
 use Rattle.journal_words.specs.Gtids.{set_of_word, IsWordFault}
 use Rattle.std.specs.FinSet as set
 use Rattle.txn_journal.specs.BundleReading.{BundleProgress, bundle_start, feed_bundle_bytes, closing_bundle}
-use Rattle.txn_journal.specs.BundleRefused.{RefusesBundle}
+use Rattle.txn_journal.specs.BundleRefused.{RefusesBundle, RefusesBundleBy}
 use Rattle.txn_journal.specs.BundleStates.{BundleValue}
 use Rattle.txn_journal.specs.Stream.{Reading, Stopped, next_number}
 use Rattle.txn_journal.specs.Words.{BeginsWithLine}
@@ -20,14 +20,16 @@ use Rattle.binlog_bundle.specs.Lines.{with_line_feed, is_channel, lines_in, HasN
 use Rattle.binlog_bundle.specs.Tables.{HasOther, HasNoOther}
 use Rattle.binlog_bundle.specs.Heads.{IsPlainHead, IsUnsupported, place_of}
 use Rattle.binlog_bundle.specs.Executed.{IsCutLine, HadExecuted, HasLack, IsFullAt}
-use Rattle.binlog_bundle.specs.Bundles.{done_line, ImportedLog, IsStart, Corresponds, said, DescribesBundle}
+use Rattle.binlog_bundle.specs.Assumed.{IsAssumeText, IsSaidBefore}
+use Rattle.binlog_bundle.specs.Bundles.{done_line, ImportedLog, IsStart, Corresponds, said, all_assumed, DescribesBundle}
 use Rattle.binlog_bundle.specs.declared.grants.Grants.{Grants}
 use Rattle.binlog_bundle.specs.declared.fault.BundleFault.{BundleFault}
 use Rattle.binlog_bundle.specs.declared.fault.BundleFault.TheVariants as bundles
 use Rattle.binlog_bundle.specs.declared.fault.ChannelFault.{ChannelFault}
 use Rattle.binlog_bundle.specs.declared.fault.ChannelFault.TheVariants as channels
 use Rattle.txn_journal.specs.BundleText.{WritesBundle}
-use Rattle.txn_journal.specs.declared.lines.Due.TheVariants.{Any}
+use Rattle.txn_journal.specs.declared.lines.Due.TheVariants.{Any, Only}
+use Rattle.txn_journal.specs.declared.lines.Version.TheVariants.{Three}
 
 -- ---- faults
 
@@ -79,6 +81,12 @@ IsRefused (faults.Set fault) bytes = RefusesBundle (faults.Set fault) bytes
 IsRefused (faults.Line n cause) bytes = RefusesBundle (faults.Line n cause) bytes × (closing_bundle (feed_bundle_bytes (bundle_start Any) bytes) ≡ Err (faults.Line n cause))
 IsRefused (faults.Truncated n) bytes = RefusesBundle (faults.Truncated n) bytes × (closing_bundle (feed_bundle_bytes (bundle_start Any) bytes) ≡ Err (faults.Truncated n))
 
+-- The same of a head with an end, where version 3 alone is due. A set that is full may be found when the head is read again, as part of the whole.
+abbrev pub IsHeadRefused : JournalFault → List ℕ → Type 0
+IsHeadRefused (faults.Set fault) bytes = RefusesBundleBy (Only Three) (faults.Set fault) bytes ⊎ RefusesBundle (faults.Set fault) bytes
+IsHeadRefused (faults.Line n cause) bytes = RefusesBundleBy (Only Three) (faults.Line n cause) bytes × (closing_bundle (feed_bundle_bytes (bundle_start (Only Three)) bytes) ≡ Err (faults.Line n cause))
+IsHeadRefused (faults.Truncated n) bytes = RefusesBundleBy (Only Three) (faults.Truncated n) bytes × (closing_bundle (feed_bundle_bytes (bundle_start (Only Three)) bytes) ≡ Err (faults.Truncated n))
+
 -- a piece more: after all bytes that were taken before it, it is taken, or else refused
 abbrev pub TakesMore : {A : Type 0} → Result A JournalFault → BundleProgress → BundleProgress → List ℕ → Type 0
 TakesMore result old new piece = (before : List ℕ) → IsFed old before → OnOk result (IsFed new (before ++ piece))
@@ -106,16 +114,16 @@ abbrev pub end_for : List ℕ → List ℕ
 end_for [] = []
 end_for (b ∷ bs) = done_line
 
--- The plain head, with the end of a bundle after it if anything comes, is none; the fault is counted over the lines of the head.
+-- The plain head, with the end of a bundle after it if anything comes, is none of version 3; the fault is counted over the lines of the head.
 pub record IsNoHead (grants : Grants) (fault : JournalFault) (text : List ℕ) : Type 0 where
   pub head : List ℕ
   pub rest : List ℕ
   pub cut : IsCut text head rest
   pub plain : List ℕ
-  pub notes : List ℕ
-  pub plain_head : IsPlainHead grants head plain notes
+  pub passed_over : Bool
+  pub plain_head : IsPlainHead grants head plain passed_over
   pub own : JournalFault
-  pub stops : IsRefused own (plain ++ end_for rest)
+  pub stops : IsHeadRefused own (plain ++ end_for rest)
   pub at : fault ≡ fault_in_head plain_head.lines own
 
 -- a line of the head isn't granted, and the first such line names this
@@ -129,15 +137,15 @@ pub record HasUnsupported (grants : Grants) (what text : List ℕ) : Type 0 wher
 -- of the logs.
 pub record HasTaken (grants : Grants) (head plain front written left text : List ℕ) : Type 0 where
   pub alone : HasNoOwn head
-  pub notes : List ℕ
-  pub plain_head : IsPlainHead grants head plain notes
+  pub passed_over : Bool
+  pub plain_head : IsPlainHead grants head plain passed_over
   pub channels : List ImportedLog
   pub corresponds : Corresponds grants head plain channels front written
   pub parts : text ≡ front ++ left
   pub begins : BeginsOwn left
   pub taken : IsTaken written
 
--- The next line of the bundle's own, without what was executed, is none of a bundle's there; it has this number.
+-- The line of a channel comes next, which, without what was executed, is none of a bundle's there; it has this number.
 pub record IsNoLine (grants : Grants) (fault : JournalFault) (line : ℕ) (text : List ℕ) : Type 0 where
   pub head : List ℕ
   pub plain : List ℕ
@@ -148,6 +156,7 @@ pub record IsNoLine (grants : Grants) (fault : JournalFault) (line : ℕ) (text 
   pub next : List ℕ
   pub after : List ℕ
   pub begins : BeginsWithLine left next after
+  pub channel : is_channel next ≡ true
   pub own : List ℕ
   pub word : Option (List ℕ)
   pub cut : IsCutLine next own word
@@ -157,6 +166,20 @@ pub record IsNoLine (grants : Grants) (fault : JournalFault) (line : ℕ) (text 
 -- this is the last line of a bundle, or there is none
 abbrev pub IsLast : List ℕ → List ℕ → Type 0
 IsLast last behind = (last ≡ done_line) ⊎ ((last ≡ []) × (behind ≡ []))
+
+-- No further channel comes, and the lines of what is assumed, or the last line behind them, are refused; this is the number of the last line.
+-- (Where a head has a line `assume ..` of its own, those of what is granted may not follow it.)
+pub record IsNoLast (grants : Grants) (fault : JournalFault) (line : ℕ) (text : List ℕ) : Type 0 where
+  pub head : List ℕ
+  pub plain : List ℕ
+  pub front : List ℕ
+  pub written : List ℕ
+  pub after : List ℕ
+  pub come : HasTaken grants head plain front written (done_line ++ after) text
+  pub assumes : List ℕ
+  pub says : IsAssumeText (all_assumed come.channels) come.passed_over assumes
+  pub stops : StopsAt fault (written ++ (assumes ++ done_line))
+  pub number : line ≡ next_number (lines_in front)
 
 -- No further channel comes, and what is after the last line, or that there is none, makes the whole no bundle; this is the number of the
 -- line after it.
@@ -169,8 +192,10 @@ pub record IsNoEnd (grants : Grants) (fault : JournalFault) (line : ℕ) (text :
   pub behind : List ℕ
   pub come : HasTaken grants head plain front written (last ++ behind) text
   pub ends : IsLast last behind
-  pub taken : IsTaken (written ++ last)
-  pub stops : IsRefused fault (written ++ (last ++ behind))
+  pub assumes : List ℕ
+  pub says : IsSaidBefore (last ++ behind) (all_assumed come.channels) come.passed_over assumes
+  pub taken : IsTaken (written ++ (assumes ++ last))
+  pub stops : IsRefused fault (written ++ ((assumes ++ last) ++ behind))
   pub number : line ≡ next_number (lines_in (front ++ last))
 
 -- The line of a channel comes next, and this is its log: all before the next line of the bundle's own.
@@ -259,8 +284,8 @@ pub record HasJournalFault (grants : Grants) (fault : JournalFault) (line : ℕ)
   pub follow : CantFollow grants fault line text start log
   pub no_other : IsOfLine fault → HasNoOther start.start.schema log
 
--- the notes on a channel want what wasn't executed of the opening set, which has too many intervals
-pub record HasFullNote (grants : Grants) (fault : SetFault) (text : List ℕ) : Type 0 where
+-- what is assumed of a channel has the part of the opening set that wasn't executed, which has too many intervals
+pub record HasFullPart (grants : Grants) (fault : SetFault) (text : List ℕ) : Type 0 where
   pub line : ℕ
   pub written : List ℕ
   pub channel : List ℕ
@@ -292,14 +317,14 @@ pub record IsTooLarge (grants : Grants) (fault : SetFault) (text : List ℕ) : T
 -- ---- the fault that is reported
 
 abbrev pub IsNoNext : Grants → JournalFault → ℕ → List ℕ → Type 0
-IsNoNext grants fault line text = IsNoLine grants fault line text ⊎ IsNoEnd grants fault line text
+IsNoNext grants fault line text = IsNoLine grants fault line text ⊎ (IsNoLast grants fault line text ⊎ IsNoEnd grants fault line text)
 
--- A set is full: one of the bundle's, that which a channel's line says was executed, that of a note, or that which a channel lacks.
+-- A set is full: one of the bundle's, that which a channel's line says was executed, one of what is assumed, or that which a channel lacks.
 pub data IsFull (grants : Grants) (fault : SetFault) (text : List ℕ) : Type 0 where
   InHead : IsNoHead grants (faults.Set fault) text → IsFull grants fault text
   InLine : (n : ℕ) → IsNoNext grants (faults.Set fault) n text → IsFull grants fault text
   InWord : HasFullSet grants fault text → IsFull grants fault text
-  InNote : HasFullNote grants fault text → IsFull grants fault text
+  InPart : HasFullPart grants fault text → IsFull grants fault text
   InLack : IsTooLarge grants fault text → IsFull grants fault text
 
 -- the fault names a line of the text's own; if out of memory, nothing is claimed of it

@@ -1,20 +1,23 @@
 //! The channels of a bundle of logs.
 ghost use Rattle.std.specs.Prelude.{◌≡◌, ◌++◌, ◌∷◌, [], ℕ, List, option_map, IfOk, IfErr, OnOk};
 ghost use Rattle.txn_journal.specs.BundleReaders.{bundle_reading};
-ghost use Rattle.binlog_bundle.specs.Notes.{notes_for, IsNoteFault};
-ghost use Rattle.binlog_bundle.specs.Bundles.{BeginsLast};
+ghost use Rattle.binlog_bundle.specs.Assumed.{IsPartFault};
+ghost use Rattle.binlog_bundle.specs.Notes.{notes_for};
+ghost use Rattle.binlog_bundle.specs.Bundles.{BeginsLast, assumed_for};
 ghost use Rattle.binlog_bundle.specs.Refused.{IsFed, IsNoBundle};
-ghost use Rattle.binlog_bundle.specs.Channels.{HasRead, HasCome, FeedsLog, FeedsChannel, IsSaid, IsNoted, IsWordRead, IsWordRefused, IsJournalFault, CantFeedLog, CantFeedChannel};
+ghost use Rattle.binlog_bundle.specs.Channels.{HasRead, HasCome, FeedsLog, FeedsChannel, IsSaid, IsAssumed, IsNoted, IsWordRead, IsWordRefused, IsJournalFault, CantFeedLog, CantFeedChannel};
 
+use crate::assumed::assume_channel;
 use crate::executed::{cut_executed, executed_set};
 use crate::fault::{BundleFault, ChannelFault};
 use crate::grants::Grants;
 use crate::lines::{cut_own, is_channel, line_at};
-use crate::notes::note_channel;
+use crate::notes::{name_in, note_bytes};
 use crate::reading::{add, add_line};
 use crate::tables::other_table;
 use binlog_entries::{cut_line, import_journal};
 use gtid_set::{GtidSet, SetFault};
+use row_images::ByteString;
 use rows::Schema;
 use std::alloc::Global;
 use txn_journal::{Bundle, BundleReader, JournalFault};
@@ -26,6 +29,10 @@ pub struct ImportProgress {
     pub reader: BundleReader,
     /// What the server of each channel had executed, if its line says so.
     pub executed: Vec<Option<GtidSet>>,
+    /// The lines that say what is assumed of the channels.
+    pub assumed: Vec<ByteString>,
+    /// Whether lines of the head were passed over.
+    pub passed_over: bool,
     pub notes: Vec<u8>,
 }
 
@@ -88,7 +95,7 @@ fn executed_of(
     }
 }
 
-/// Keeps what a channel's server had executed, and the notes on the channel.
+/// Keeps what a channel's server had executed, what is assumed of the channel, and the notes on it.
 fn keep_channel(
     alloc: Global,
     start: &Bundle,
@@ -99,13 +106,28 @@ fn keep_channel(
 ) -> Result<(), SetFault>
     ensures reader { bundle_reading progress.new.reader ≡ bundle_reading progress.old.reader }
     ensures said { OnOk result (IsSaid progress.old progress.new executed) }
-    ensures noted { OnOk result (IsNoted progress.old progress.new (notes_for start.now own.now varied.now executed)) }
-    ensures fault { IfErr result (λ fault. IsNoteFault fault start.now.opened executed) }
+    ensures assumed { OnOk result (IsAssumed progress.old progress.new (assumed_for start.now own.now executed)) }
+    ensures noted { OnOk result (IsNoted progress.old progress.new (notes_for start.now own.now varied.now)) }
+    ensures head { progress.new.passed_over ≡ progress.old.passed_over }
+    ensures fault { IfErr result (λ fault. IsPartFault fault start.now.opened executed) }
 {
-    match note_channel(alloc, start, &mut progress.notes, own, varied, &executed) {
+    let channel = name_in(own);
+    match assume_channel(
+        alloc,
+        &mut progress.assumed,
+        channel,
+        start.opening_set(),
+        &executed,
+    ) {
         Ok(()) => {}
         Err(fault) => return Err(fault),
     }
+    note_bytes(
+        &mut progress.notes,
+        channel,
+        start.schema().tables(),
+        varied,
+    )?;
     progress.executed.push(executed)?;
     Ok(())
 }

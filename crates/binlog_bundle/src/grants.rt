@@ -1,6 +1,6 @@
 //! What an operator grants.
 
-/// What an operator grants: of what a verdict then doesn't see, the notes speak (`ImportedBundle::notes`).
+/// What an operator grants. Of what a verdict then doesn't see, the bundle's assumptions speak, and of keys the notes (`ImportedBundle`).
 #[derive(Clone, Copy, Debug, PartialEq, Eq)]
 pub struct Grants {
     /// Keys that the server compares otherwise than by their bytes are taken.

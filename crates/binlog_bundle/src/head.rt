@@ -1,22 +1,22 @@
 //! The head of a bundle of logs: lines of the bundle, and lines that name what it can't hold.
-ghost use Rattle.std.specs.Prelude.{◌≡◌, ◌++◌, ℕ, List, MatchOption, IfOk, IfErr, OnOk, true};
+ghost use Rattle.std.specs.Prelude.{◌≡◌, ◌++◌, ◌||◌, ℕ, Bool, List, IsTrue, IfOk, IfErr, OnOk, true};
 ghost use Rattle.binlog_bundle.specs.Lines.{with_line_feed, AreLines};
-ghost use Rattle.binlog_bundle.specs.Heads.{is_unsupported, is_granted, plain_text, line_note, place_of, IsPlainHead, IsNoPlainHead, IsNotGranted, IsGrantedKey, NoGrantedKey};
+ghost use Rattle.binlog_bundle.specs.Heads.{is_unsupported, is_granted, is_granted_key, plain_text, place_of, IsPlainHead, IsNoPlainHead, IsNotGranted};
 ghost use Rattle.binlog_bundle.specs.Refused.{fault_in_head};
 ghost use Rattle.binlog_bundle.specs.declared.head.HeadFault.TheVariants as heads;
 
 use crate::grants::Grants;
 use crate::lines::strip;
-use crate::notes::note_references;
 use binlog_entries::cut_line;
 use std::alloc::{AllocError, Global};
 use txn_journal::JournalFault;
 
-/// A head without its lines `unsupported ..`, and what is noted of these.
+/// A head without its lines `unsupported ..`.
 #[derive(Drop)]
 pub struct PlainHead {
     pub text: Vec<u8>,
-    pub notes: Vec<u8>,
+    /// Whether there was such a line: each was passed over.
+    pub passed_over: bool,
 }
 
 /// Why a head is not taken.
@@ -42,21 +42,18 @@ fn is_unsupported(line: &[u8]) -> bool
     line.starts_with(b"unsupported ")
 }
 
-/// The foreign key that is unsupported, if that is granted.
-fn granted_key(grants: Grants, what: &[u8]) -> Option<&[u8]>
-    ensures { MatchOption result (NoGrantedKey grants what.now) (λ key. IsGrantedKey grants what.now key.now) }
+/// Whether what is unsupported is a foreign key, and that is granted.
+fn is_granted_key(grants: Grants, what: &[u8]) -> bool
+    ensures { result ≡ is_granted_key grants what.now }
 {
-    if !grants.without_foreign_keys {
-        return None;
-    }
-    strip(what, b"foreign-key ")
+    grants.without_foreign_keys && what.starts_with(b"foreign-key ")
 }
 
 impl PlainHead {
     /// Takes a line of the bundle.
     fn take_plain(&mut self, line: &[u8]) -> Result<(), AllocError>
         ensures text { OnOk result (self.new.text.items ≡ self.old.text.items ++ with_line_feed line.now) }
-        ensures notes { self.new.notes.items ≡ self.old.notes.items }
+        ensures passed { self.new.passed_over ≡ self.old.passed_over }
     {
         self.text.extend_from_slice(line)?;
         self.text.push(b'\n')?;
@@ -67,31 +64,29 @@ impl PlainHead {
     fn take_line(&mut self, alloc: Global, grants: Grants, line: &[u8]) -> Result<(), HeadFault>
         ensures granted { OnOk result (is_granted grants line.now ≡ true) }
         ensures text { OnOk result (self.new.text.items ≡ self.old.text.items ++ plain_text line.now) }
-        ensures notes { OnOk result (self.new.notes.items ≡ self.old.notes.items ++ line_note line.now) }
+        ensures passed { OnOk result (self.new.passed_over ≡ (self.old.passed_over || is_unsupported line.now)) }
         ensures refused { IfErr result (IsNotGranted grants line.now) }
     {
         let Some(what) = strip(line, b"unsupported ") else {
             self.take_plain(line)?;
             return Ok(());
         };
-        match granted_key(grants, what) {
-            Some(key) => {
-                note_references(&mut self.notes, key)?;
-                Ok(())
-            }
-            None => Err(HeadFault::Unsupported(what.to_vec(alloc)?)),
+        if !is_granted_key(grants, what) {
+            return Err(HeadFault::Unsupported(what.to_vec(alloc)?));
         }
+        self.passed_over = true;
+        Ok(())
     }
 }
 
 /// The head without its lines `unsupported ..`, each of which has to be granted.
 pub fn plain_head(alloc: Global, grants: Grants, head: &[u8]) -> Result<PlainHead, HeadFault>
-    ensures found { IfOk result (λ plain. IsPlainHead grants head.now plain.text.items plain.notes.items) }
+    ensures found { IfOk result (λ plain. IsPlainHead grants head.now plain.text.items plain.passed_over) }
     ensures refused { IfErr result (λ fault. IsNoPlainHead grants head.now fault) }
 {
     let mut plain = PlainHead {
         text: Vec::new(alloc),
-        notes: Vec::new(alloc),
+        passed_over: false,
     };
     let mut left = head;
     while let Some((line, after)) = cut_line(left) {

@@ -5,13 +5,14 @@ ghost use Rattle.binlog_bundle.specs.Bundles.{BeginsLast, IsStart, ImportsBundle
 ghost use Rattle.binlog_bundle.specs.Refused.{end_for, IsNoBundle};
 ghost use Rattle.binlog_bundle.specs.Channels.{HasCome, HasHead, IsDescribed};
 
+use crate::assumed::said_before;
 use crate::channels::{ImportProgress, take_channels};
 use crate::executed::first_lack;
 use crate::fault::{BundleFault, fault_at_line};
 use crate::grants::Grants;
 use crate::head::{HeadFault, PlainHead, fault_in_head, plain_head};
 use crate::lines::{cut_own, line_at, split_line};
-use crate::reading::{add, close, read_both};
+use crate::reading::{add, add_both, close, read_head};
 use gtid_set::{GtidSet, SetFault};
 use std::alloc::Global;
 use txn_journal::{Bundle, BundleReader, JournalFault};
@@ -20,8 +21,8 @@ use txn_journal::{Bundle, BundleReader, JournalFault};
 #[derive(Drop)]
 pub struct ImportedBundle {
     pub bundle: Bundle,
-    /// What a verdict on the bundle doesn't see, a line for each: what was granted, and what of the opening set a channel's server hadn't
-    /// executed. First those of the head, and then those of each channel.
+    /// What a verdict on the bundle doesn't see and no line of the bundle says, a line for each: the tables of each channel with a key that the
+    /// server compares otherwise than by its bytes.
     pub notes: Vec<u8>,
 }
 
@@ -65,11 +66,16 @@ fn end(
     let ImportProgress {
         reader,
         executed,
+        assumed,
+        passed_over,
         notes,
     } = progress;
     let mut reader = reader;
+    let Ok(said) = said_before(alloc, left, assumed, passed_over) else {
+        return Err(BundleFault::Own(JournalFault::Set(SetFault::Memory)));
+    };
     let (line, behind) = split_line(left);
-    match add(alloc, &mut reader, line) {
+    match add_both(alloc, &mut reader, &said, line) {
         Ok(()) => {}
         Err(fault) => return Err(BundleFault::Own(fault_at_line(fault, line_at(text, left)))),
     }
@@ -89,7 +95,7 @@ fn import_channels(
     text: &[u8],
     rest: &[u8],
 ) -> Result<ImportedBundle, BundleFault>
-    requires head { HasHead grants text.now head.now plain.text.items plain.notes.items rest.now }
+    requires head { HasHead grants text.now head.now plain.text.items plain.passed_over rest.now }
     requires begins { IsStart plain.text.items start.now }
     requires more { rest.now ≢ [] }
     ensures found { IfOk result (λ i. ImportsBundle grants text.now i.bundle i.notes.items) }
@@ -98,7 +104,9 @@ fn import_channels(
     let mut progress = ImportProgress {
         reader: BundleReader::start(alloc),
         executed: Vec::new(alloc),
-        notes: plain.notes,
+        assumed: Vec::new(alloc),
+        passed_over: plain.passed_over,
+        notes: Vec::new(alloc),
     };
     match add(alloc, &mut progress.reader, &plain.text) {
         Ok(()) => {}
@@ -126,28 +134,31 @@ fn import_plain(
     text: &[u8],
     rest: &[u8],
 ) -> Result<ImportedBundle, BundleFault>
-    requires { HasHead grants text.now head.now plain.text.items plain.notes.items rest.now }
+    requires { HasHead grants text.now head.now plain.text.items plain.passed_over rest.now }
     ensures found { IfOk result (λ i. ImportsBundle grants text.now i.bundle i.notes.items) }
     ensures refused { IfErr result (λ fault. IsNoBundle grants fault text.now) }
 {
-    match read_both(alloc, &plain.text, end_for(rest)) {
+    let mut plain = plain;
+    match read_head(alloc, &mut plain.text, end_for(rest)) {
         Ok(bundle) if rest.is_empty() => Ok(ImportedBundle {
             bundle,
-            notes: plain.notes,
+            notes: Vec::new(alloc),
         }),
         Ok(start) => import_channels(alloc, grants, &start, head, plain, text, rest),
         Err(fault) => Err(BundleFault::Own(fault_in_head(head, fault))),
     }
 }
 
-/// The bundle that a text describes: a bundle of version 2, but that a log's text, as mysqlbinlog prints it, is in the place of each
-/// journal, that the line of a channel says what its server had executed, and that the head may name what a bundle can't hold.
+/// The bundle that a text describes: a bundle of version 3, but that a log's text, as mysqlbinlog prints it, is in the place of each
+/// journal, that the line of a channel says what its server had executed, and that the head may name what a bundle can't hold. What is granted
+/// of these the bundle assumes, and also what of the opening set the servers of its channels hadn't executed.
 pub fn import_bundle(
     alloc: Global,
     grants: Grants,
     text: &[u8],
 ) -> Result<ImportedBundle, BundleFault>
-    // Its text is the other one with the journals that the logs describe; what was executed is within it, and this is noted.
+    // Its text is the other one with the journals that the logs describe, and with the lines of what is assumed before the last one; what was
+    // executed is within it, and this is noted.
     ensures found { IfOk result (λ i. ImportsBundle grants text.now i.bundle i.notes.items) }
     // Which line is the first that is refused, which log describes no journal of that bundle, or which channel's server had executed more.
     ensures refused { IfErr result (λ fault. IsNoBundle grants fault text.now) }

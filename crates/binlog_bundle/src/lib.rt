@@ -1,6 +1,6 @@
 //! Bundles whose journals are the texts of MySQL's binary logs, as `mysqlbinlog` 9.7 prints them.
 //!
-//! The input is a bundle of version 2 in which the text of a channel's logs is in the place of its journal, and which says two things more.
+//! The input is a bundle of version 3 in which the text of a channel's logs is in the place of its journal, and which says two things more.
 //! The line of a channel, `channel <name>[ preserve] executed <set>`, says what its server had executed when the logs were taken. Lines
 //! `unsupported <what> <where>` before the first channel name what a bundle can't hold, such as a foreign key. The text is cut at the lines
 //! of the bundle's own (`channel ..`, `done`), which no line of a log is (`logs_are_not_cut`). Each log is read by
@@ -9,19 +9,20 @@
 //!
 //! What a bundle would hide is refused: a line `unsupported ..`; a channel's line that doesn't say what was executed; and a channel whose
 //! server had executed anything that is neither in the opening set, nor in the set that was executed before its log, nor an entry of it.
-//! An operator may grant keys that aren't compared by bytes, foreign keys, and that what was executed isn't known (`Grants`). Of each
-//! there is then a note, and also of what a channel's server hadn't executed of the opening set.
+//! An operator may grant foreign keys, that what was executed isn't known, and keys that aren't compared by bytes (`Grants`). The first two the
+//! bundle then says in its `assume` lines, and also what of the opening set a channel's server hadn't executed; of keys there is a note.
 //!
 //! What a contract sees: a text, the bundle that it describes and the notes (`ImportsBundle`): head and lines of channels are the same but
-//! for what was added, each log is in the place of the journal that it describes, and what was executed lies within. A refusal is one of a
-//! log, of a line of the bundle's own, of a key, of a line `unsupported ..` or of what was executed, with its line or channel
-//! (`IsNoBundle`); lines count over the whole text.
+//! for what was added, each log is in the place of the journal that it describes, before the last line are the lines of exactly what is assumed,
+//! and what was executed lies within. A refusal is one of a log, of a line of the bundle's own, of a key, of a line `unsupported ..` or of what
+//! was executed, with its line or channel (`IsNoBundle`); lines count over the whole text.
 //!
 //! Not proved: that what mysqlbinlog prints is what the server logged, that the sets and the lines `unsupported ..` are what the server
 //! answered, and that each text which means a bundle is accepted: lines elsewhere than mysqlbinlog puts them are refused. Cost, from the
 //! code: one pass over the input, and one over the GTIDs of each journal to make their set; an opening row is read twice.
 #![tactic(auto)]
 
+mod assumed;
 mod channels;
 mod executed;
 mod fault;

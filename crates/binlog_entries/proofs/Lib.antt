@@ -8,5 +8,3 @@ pub mod Pieces
 pub mod Whole
 pub mod JournalSteps
 pub mod PlaceLaws
-pub mod KnownLaws
-pub mod JoinLaws

@@ -9,7 +9,7 @@ use Rattle.row_images.specs.declared.value.Value.{Value}
 use Rattle.row_images.specs.Values.{is_longer}
 use Rattle.rows.specs.declared.change.Change.{Change}
 use Rattle.rows.specs.declared.change.Change.TheVariants as changes
-use Rattle.rows.specs.declared.limits.Limits.TheVariants.{Narrow}
+use Rattle.rows.specs.declared.limits.Limits.TheVariants.{Wide}
 use Rattle.journal.specs.declared.Entry.{Entry}
 use Rattle.journal.specs.Writing.{is_number, is_value_writable, is_image_writable, is_change_writable, is_txn_writable, is_writable}
 use Rattle.journal.proofs.WritableLemmas.{values_writable}
@@ -35,25 +35,25 @@ first_kept : (b : Bool) (column : ℕ) (rest : Option ℕ) → cond b rest (Some
 first_kept true column rest e = (refl, e)
 first_kept false column rest e = absurd cc
 
-long_none : (column : ℕ) (vs : List Value) → first_long column vs ≡ None → list_all (is_value_writable Narrow) vs ≡ true
+long_none : (column : ℕ) (vs : List Value) → first_long column vs ≡ None → list_all (is_value_writable Wide) vs ≡ true
 long_none column [] e = refl
 long_none column (v ∷ vs) e =
-    let p = first_kept (is_value_writable Narrow v) column (first_long (column + 1) vs) e in
-    and_from (is_value_writable Narrow v) (list_all (is_value_writable Narrow) vs) p.0 (long_none (column + 1) vs p.1)
+    let p = first_kept (is_value_writable Wide v) column (first_long (column + 1) vs) e in
+    and_from (is_value_writable Wide v) (list_all (is_value_writable Wide) vs) p.0 (long_none (column + 1) vs p.1)
 
-short_none : (column : ℕ) (vs : List Value) → list_all (is_value_writable Narrow) vs ≡ true → first_long column vs ≡ None
+short_none : (column : ℕ) (vs : List Value) → list_all (is_value_writable Wide) vs ≡ true → first_long column vs ≡ None
 short_none column [] e = refl
 short_none column (v ∷ vs) e =
-    let p = and_parts (is_value_writable Narrow v) (list_all (is_value_writable Narrow) vs) e in
+    let p = and_parts (is_value_writable Wide v) (list_all (is_value_writable Wide) vs) e in
     rw p.0 (short_none (column + 1) vs p.1)
 
 -- ---- images
 
 -- an image with no long value passes no limit, where it has as many values as one may have
-pub short_image : (table : List ℕ) (image : List Value) (long : Bool) → 1 ≤ length image → length image ≤ 64 → long ≡ list_any (is_longer 65535) image → long ≡ false → image_limit table image ≡ None
+pub short_image : (table : List ℕ) (image : List Value) (long : Bool) → 1 ≤ length image → length image ≤ 4096 → long ≡ list_any (is_longer 4294967295) image → long ≡ false → image_limit table image ≡ None
 short_image table image long some few is e =
-    let short : list_all (is_value_writable Narrow) image ≡ true = sym (values_writable Narrow image) ∙ ap not (sym is ∙ e) in
-    rw (le-leb 1 (length image) some, le-leb (length image) 64 few, short_none 0 image short) refl
+    let short : list_all (is_value_writable Wide) image ≡ true = sym (values_writable Wide image) ∙ ap not (sym is ∙ e) in
+    rw (le-leb 1 (length image) some, le-leb (length image) 4096 few, short_none 0 image short) refl
 
 image_parts : (table : List ℕ) (a b : Bool) (o : Option ℕ) (all : Bool) → (o ≡ None → all ≡ true) → cond (a && b) (option_map (limits.Bytes table) o) (Some (limits.Columns table)) ≡ None → (a && (b && all)) ≡ true
 image_parts table true true None all k e = k refl
@@ -61,8 +61,8 @@ image_parts table true true (Some c) all k e = absurd cc
 image_parts table true false o all k e = absurd cc
 image_parts table false b o all k e = absurd cc
 
-image_none : (table : List ℕ) (image : List Value) → image_limit table image ≡ None → is_image_writable Narrow image ≡ true
-image_none table image e = image_parts table (nat_le 1 (length image)) (nat_le (length image) 64) (first_long 0 image) (list_all (is_value_writable Narrow) image) (long_none 0 image) e
+image_none : (table : List ℕ) (image : List Value) → image_limit table image ≡ None → is_image_writable Wide image ≡ true
+image_none table image e = image_parts table (nat_le 1 (length image)) (nat_le (length image) 4096) (first_long 0 image) (list_all (is_value_writable Wide) image) (long_none 0 image) e
 
 -- ---- changes
 
@@ -70,26 +70,26 @@ or_none : (o p : Option Limit) → or_else o p ≡ None → (o ≡ None) × (p �
 or_none None p e = (refl, e)
 or_none (Some limit) p e = absurd cc
 
-change_none : (c : Change) → change_limit c ≡ None → is_change_writable Narrow c ≡ true
+change_none : (c : Change) → change_limit c ≡ None → is_change_writable Wide c ≡ true
 change_none (changes.Insert table after) e = image_none table after e
 change_none (changes.Delete table before) e = image_none table before e
 change_none (changes.Update table before after) e =
     let p = or_none (image_limit table before) (image_limit table after) e in
-    and_from (is_image_writable Narrow before) (is_image_writable Narrow after) (image_none table before p.0) (image_none table after p.1)
+    and_from (is_image_writable Wide before) (is_image_writable Wide after) (image_none table before p.0) (image_none table after p.1)
 
-changes_none : (cs : List Change) → changes_limit cs ≡ None → list_all (is_change_writable Narrow) cs ≡ true
+changes_none : (cs : List Change) → changes_limit cs ≡ None → list_all (is_change_writable Wide) cs ≡ true
 changes_none [] e = refl
 changes_none (c ∷ cs) e =
     let p = or_none (change_limit c) (changes_limit cs) e in
-    and_from (is_change_writable Narrow c) (list_all (is_change_writable Narrow) cs) (change_none c p.0) (changes_none cs p.1)
+    and_from (is_change_writable Wide c) (list_all (is_change_writable Wide) cs) (change_none c p.0) (changes_none cs p.1)
 
 few_none : (b : Bool) (o : Option Limit) → cond b o (Some limits.Changes) ≡ None → (b ≡ true) × (o ≡ None)
 few_none true o e = (refl, e)
 few_none false o e = absurd cc
 
 -- an entry with the number of a transaction that passes no limit can be written
-pub within_limits : (e : Entry) → is_number e.gtid.number ≡ true → limit_of e ≡ None → is_writable Narrow e ≡ true
+pub within_limits : (e : Entry) → is_number e.gtid.number ≡ true → limit_of e ≡ None → is_writable Wide e ≡ true
 within_limits e number none =
-    let p = few_none (nat_le (length e.txn.changes) 65536) (changes_limit e.txn.changes) none in
-    and_from (is_number e.gtid.number) (is_txn_writable Narrow e.txn) number
-    (and_from (nat_le (length e.txn.changes) 65536) (list_all (is_change_writable Narrow) e.txn.changes) p.0 (changes_none e.txn.changes p.1))
+    let p = few_none (nat_le (length e.txn.changes) 4294967294) (changes_limit e.txn.changes) none in
+    and_from (is_number e.gtid.number) (is_txn_writable Wide e.txn) number
+    (and_from (nat_le (length e.txn.changes) 4294967294) (list_all (is_change_writable Wide) e.txn.changes) p.0 (changes_none e.txn.changes p.1))

@@ -1,53 +1,37 @@
 -- Each line of a row adds what it means to what the row denotes.
-use Rattle.std.proofs.Common.{◌≡◌, ℕ, ◌+◌, ◌-◌, Bool, true, false, cond, eqb, not, List, [], ◌∷◌, ◌++◌, length, Option, Some, None, Result, Ok, Err, refl, sym, ap, ◌∙◌, subst, append_assoc, arith, inl, inr}
+use Rattle.std.proofs.Common.{◌≡◌, ℕ, ◌+◌, ◌-◌, Bool, true, false, cond, eqb, not, List, [], ◌∷◌, ◌++◌, length, Option, Some, None, Result, Ok, Err, refl, sym, ap, ◌∙◌, subst, append_assoc, append-nil, arith}
 use Rattle.std.specs.Prelude.{◌&&◌, is_some}
-use Rattle.std.specs.List.{flat_map}
 use Rattle.std.proofs.lemmas.Bool.{eqb-true}
 use Rattle.std.proofs.lemmas.Option.{same_Some}
-use Rattle.gtid_text.proofs.Turns.{chosen}
-use Rattle.gtid_text.specs.Canonical.{gtid_text}
-use Rattle.gtid_text.specs.declared.Gtid.{Gtid}
 use Rattle.row_images.specs.declared.value.Value.{Value}
-use Rattle.rows.specs.declared.change.Change.{Change}
 use Rattle.rows.specs.Names.{is_short_name}
-use Rattle.rows.specs.declared.limits.Limits.TheVariants.{Narrow}
-use Rattle.txn_journal.specs.Words.{name_of}
+use Rattle.log_transactions.specs.Machine.{has_table}
+use Rattle.log_transactions.specs.Machine as transactions
+use Rattle.log_transactions.specs.Tables.{table_name}
 use Rattle.binlog_text.specs.declared.types.ColumnType.{ColumnType}
 use Rattle.binlog_text.specs.Values.{value_at}
 use Rattle.binlog_text.specs.declared.lines.Mark.TheVariants as marks
 use Rattle.binlog_text.specs.declared.lines.RowOperation.{RowOperation}
 use Rattle.binlog_text.specs.declared.lines.RowOperation.TheVariants as operations
 use Rattle.binlog_text.specs.Lines.{OfMark, OfRow, OfValue}
-use Rattle.binlog_entries.specs.Tables.{Table, find_table, type_at}
+use Rattle.binlog_entries.specs.Tables.{Table, type_at}
 use Rattle.binlog_entries.specs.Bodies.{is_row_due, row_behind}
-use Rattle.binlog_entries.specs.Machine.{Standing, or_refused, is_begun, finish_row, is_database, open_row, known_name, begin_row, row_line, before_due, after_due, where_line, set_line, parse_value, next_value, value_in, value_line, is_closed}
-use Rattle.binlog_entries.specs.Meaning.{Meaning, Names, Row, Before, After, Holds, shown_in, meaning_of_values, meaning_of_change, meaning_of_entries}
+use Rattle.binlog_entries.specs.Machine.{Standing, or_refused, finish_row, open_row, begin_row, row_line, before_due, after_due, where_line, set_line, parse_value, next_value, value_in, value_line, is_closed}
+use Rattle.binlog_entries.specs.Meaning.{Meaning, Row, Before, After, Holds, shown_in, with_value, meaning_of_values}
 use Rattle.binlog_entries.specs.declared.bodies.Body.{Body}
 use Rattle.binlog_entries.specs.declared.bodies.Body.TheVariants as bodies
-use Rattle.binlog_entries.specs.declared.draft.LogStage.{LogStage}
-use Rattle.binlog_entries.specs.declared.draft.LogStage.TheVariants as stages
 use Rattle.binlog_entries.specs.declared.draft.RowPart.{RowPart}
 use Rattle.binlog_entries.specs.declared.draft.RowPart.TheVariants as parts
 use Rattle.binlog_entries.specs.declared.fault.EntryRefusal.{EntryRefusal}
 use Rattle.binlog_entries.specs.declared.fault.EntryRefusal.TheVariants as refusals
-use Rattle.binlog_entries.proofs.TransactionLaws.{bind_ok, same_ok, if_ok, spelled_row, spelled_open, row_of, spelled_state, is_rows, RowFits, Sound, Tells, bare, finish_law}
+use Rattle.binlog_entries.proofs.TransactionLaws.{bind_ok, same_ok, if_ok, spelled_row, row_of, events_spelled, context_of, is_rows, RowFits, Sound, Tells, bare, finished, finish_law}
 
 -- ---- rows
 
--- what a row of the transaction that has begun means more
-pub grown : (es : List Meaning) (stage : LogStage) (gtid : Gtid) (cs : List Change) (old new m : List Meaning) → is_begun stage ≡ true → new ≡ old ++ m → es ++ spelled_open stage gtid cs new ≡ (es ++ spelled_open stage gtid cs old) ++ m
-grown es stages.Idle gtid cs old new m b e = absurd cc
-grown es stages.Named gtid cs old new m b e = absurd cc
-grown es stages.Begun gtid cs old new m b e =
-    ap (λ (xs : List Meaning). es ++ (Names (gtid_text gtid) ∷ xs)) (ap (λ (xs : List Meaning). flat_map meaning_of_change cs ++ xs) e ∙ sym (append_assoc (flat_map meaning_of_change cs) old m))
-    ∙ sym (append_assoc es (Names (gtid_text gtid) ∷ (flat_map meaning_of_change cs ++ old)) m)
-
 -- what is known of a state within rows
-pub sound_rows : (s : Standing) → is_rows s.body ≡ true → is_begun s.stage ≡ true → (is_row_due s.body ≡ true → s.row ≡ None) → RowFits s.row s.part s.before s.after → Sound s
-sound_rows s rows begun due fits = record {
-  quiet = λ b. absurd (let bad : true ≡ false = sym begun ∙ b in cc);
+pub sound_rows : (s : Standing) → is_rows s.body ≡ true → (is_row_due s.body ≡ true → s.row ≡ None) → RowFits s.row s.part s.before s.after → Sound s
+sound_rows s rows due fits = record {
   inside = λ b. absurd (let bad : true ≡ false = sym rows ∙ b in cc);
-  begun = λ b. begun;
   closed = λ c. absurd (no_rows s.body rows c);
   due = due;
   fits = fits;
@@ -69,8 +53,8 @@ come_due bodies.RowsDue d = absurd cc
 come_due _ d = absurd cc
 
 -- the state after a row's line
-sound_row : (s : Standing) → is_rows s.body ≡ true → is_begun s.stage ≡ true → RowFits s.row s.part s.before s.after → Sound (record s { body = row_behind s.body })
-sound_row s rows begun fits = sound_rows (record s { body = row_behind s.body }) (rows_behind s.body rows) begun (λ d. come_due s.body d) fits
+sound_row : (s : Standing) → is_rows s.body ≡ true → RowFits s.row s.part s.before s.after → Sound (record s { body = row_behind s.body })
+sound_row s rows fits = sound_rows (record s { body = row_behind s.body }) (rows_behind s.body rows) (λ d. come_due s.body d) fits
 
 abbrev pub row_taken : Standing → Standing
 row_taken t = record t { body = row_behind t.body }
@@ -93,9 +77,10 @@ where_law s t sound rows h =
     let p = if_ok (is_some s.row && before_due s.operation s.part) (record s { part = parts.Before }) refusals.Columns t h in
     let row = where_row s.row s.operation s.part s.before s.after p.0 sound.fits in
     subst (λ (u : Standing). Tells s (OfMark marks.Where) (row_taken u)) p.1 (record {
-      spells = grown (meaning_of_entries s.entries) s.stage s.gtid s.changes (row_of s) _ (Before ∷ []) (sound.begun rows) row.0;
+      events = refl;
+      spells = sym row.0;
       context = refl;
-      sound = sound_row (record s { part = parts.Before }) rows (sound.begun rows) row.1;
+      sound = sound_row (record s { part = parts.Before }) rows row.1;
     })
 
 pub set_law : (s t : Standing) → Sound s → is_rows s.body ≡ true → set_line s ≡ Ok t → Tells s (OfMark marks.Set) (row_taken t)
@@ -104,9 +89,10 @@ set_law s t sound rows h =
     let p = if_ok (is_some s.row && after_due s.operation s.part) (record s { part = parts.After }) refusals.Columns t h in
     let row = set_row s.row s.operation s.part s.before s.after p.0 sound.fits in
     subst (λ (u : Standing). Tells s (OfMark marks.Set) (row_taken u)) p.1 (record {
-      spells = grown (meaning_of_entries s.entries) s.stage s.gtid s.changes (row_of s) _ (After ∷ []) (sound.begun rows) row.0;
+      events = refl;
+      spells = sym row.0;
       context = refl;
-      sound = sound_row (record s { part = parts.After }) rows (sound.begun rows) row.1;
+      sound = sound_row (record s { part = parts.After }) rows row.1;
     })
 
 -- one value more
@@ -182,10 +168,10 @@ value_by s t parts.Before n text sound rows is h =
     subst (λ (p : RowPart). RowFits s.row p (s.before ++ a.0 ∷ []) s.after) (sym is)
     (fits_before s.row v.row.0 s.before (s.before ++ a.0 ∷ []) s.after v.row.1 (subst (λ (p : RowPart). RowFits s.row p s.before s.after) is sound.fits)) in
     subst (λ (u : Standing). Tells s (OfValue n text) (row_taken u)) (same_ok _ t a.2) (record {
-      spells = grown (meaning_of_entries s.entries) s.stage s.gtid s.changes (row_of s) _ (Holds n (Some a.0) ∷ []) (sound.begun rows) row
-          ∙ ap (λ (o : Option Value). spelled_state s ++ Holds n o ∷ []) (sym v.shown);
-      context = refl;
-      sound = sound_row (record s { before = s.before ++ a.0 ∷ [] }) rows (sound.begun rows) fits;
+      events = refl;
+      spells = ap (λ (o : Option Value). row_of s ++ Holds n o ∷ []) v.shown ∙ sym row;
+      context = sym (λ i. with_value (context_of s) (is i) (v.shown i));
+      sound = sound_row (record s { before = s.before ++ a.0 ∷ [] }) rows fits;
     })
 value_by s t parts.After n text sound rows is h =
     let a = bind_ok (next_value s (length s.after) n text) _ t h in
@@ -196,10 +182,10 @@ value_by s t parts.After n text sound rows is h =
     let fits : RowFits s.row s.part s.before (s.after ++ a.0 ∷ []) =
     subst (λ (p : RowPart). RowFits s.row p s.before (s.after ++ a.0 ∷ [])) (sym is) (fits_after s.row v.row.0 s.before (s.after ++ a.0 ∷ []) v.row.1) in
     subst (λ (u : Standing). Tells s (OfValue n text) (row_taken u)) (same_ok _ t a.2) (record {
-      spells = grown (meaning_of_entries s.entries) s.stage s.gtid s.changes (row_of s) _ (Holds n (Some a.0) ∷ []) (sound.begun rows) row
-          ∙ ap (λ (o : Option Value). spelled_state s ++ Holds n o ∷ []) (sym v.shown);
-      context = refl;
-      sound = sound_row (record s { after = s.after ++ a.0 ∷ [] }) rows (sound.begun rows) fits;
+      events = refl;
+      spells = ap (λ (o : Option Value). row_of s ++ Holds n o ∷ []) v.shown ∙ sym row;
+      context = sym (λ i. with_value (context_of s) (is i) (v.shown i));
+      sound = sound_row (record s { after = s.after ++ a.0 ∷ [] }) rows fits;
     })
 
 pub value_law : (s t : Standing) (n : ℕ) (text : List ℕ) → Sound s → is_rows s.body ≡ true → value_line s n text ≡ Ok t → Tells s (OfValue n text) (row_taken t)
@@ -212,35 +198,30 @@ pub named_is : (b : Bool) (word name : List ℕ) → (let o : Option (List ℕ) 
 named_is true word name e = same_Some _ _ e
 named_is false word name e = absurd cc
 
-pub known_is : (table : List ℕ) (tables : List Table) (name : List ℕ) → known_name table tables ≡ Some name → table ≡ name
-known_is table tables name e = elim (chosen (is_some (find_table table tables)) (name_of Narrow table) None (Some name) e) [
-  | inl p ↦ named_is (is_short_name table) table name p.1
-  | inr p ↦ absurd cc
-]
-
 -- passed tests
 pub unless_not : {A : Type 0} (b : Bool) (e : EntryRefusal) (r : Result A EntryRefusal) (x : A) → cond (not b) (Err e) r ≡ Ok x → (b ≡ true) × (r ≡ Ok x)
 unless_not true e r x h = (refl, h)
 unless_not false e r x h = absurd cc
 
-pub opened_is : (s t : Standing) (operation : RowOperation) (o : Option (List ℕ)) → open_row s operation o ≡ Ok t → (table : List ℕ) × (o ≡ Some table) × (record s { row = Some table; operation = operation; part = parts.Head } ≡ t)
-opened_is s t operation None e = absurd cc
-opened_is s t operation (Some table) e = (table, refl, same_ok _ t e)
+abbrev pub with_row : Standing → List ℕ → RowOperation → Standing
+with_row s table operation = record s { row = Some table; operation = operation; part = parts.Head }
+
+pub opened_is : (s t : Standing) (operation : RowOperation) (database : List ℕ) (o : Option (List ℕ)) → open_row s operation database o ≡ Ok t → (table : List ℕ) × (o ≡ Some table) × (with_row s table operation ≡ t)
+opened_is s t operation database None e = absurd cc
+opened_is s t operation database (Some table) e = (table, refl, (if_ok (has_table s.log database table) (with_row s table operation) refusals.Table t e).1)
 
 pub row_law : (s t : Standing) (operation : RowOperation) (database table : List ℕ) → Sound s → is_rows s.body ≡ true → row_line s operation database table ≡ Ok t → Tells s (OfRow operation database table) (row_taken t)
 unfolding row_line
 row_law s t operation database table sound rows h =
-    let a = bind_ok (finish_row s) _ t h in
+    let a = bind_ok (finish_row s) (λ u. begin_row u operation database table) t h in
     let f = finish_law s a.0 sound a.1 in
-    let began : begin_row (bare s f.made) operation database table ≡ Ok t = subst (λ (u : Standing). begin_row u operation database table ≡ Ok t) f.is a.2 in
-    let c = unless_not (is_database database s.database) refusals.Table _ t began in
-    let o = opened_is (bare s f.made) t operation (known_name table s.tables) c.1 in
-    let name = known_is table s.tables o.0 o.1 in
-    let begun = sound.begun rows in
-    subst (λ (u : Standing). Tells s (OfRow operation database table) (row_taken u)) o.2 (record {
-      spells = grown (meaning_of_entries s.entries) s.stage s.gtid f.made [] (Row operation o.0 ∷ []) (Row operation o.0 ∷ []) begun refl
-          ∙ ap (λ (xs : List Meaning). xs ++ Row operation o.0 ∷ []) f.spells
-          ∙ ap (λ (xs : List ℕ). spelled_state s ++ Row operation xs ∷ []) (sym name);
-      context = ap (λ (xs : List ℕ). record { is_over = s.is_over; mapping = s.mapping; tables = s.tables; row = Some xs }) (sym name);
-      sound = sound_row (record (bare s f.made) { row = Some o.0; operation = operation; part = parts.Head }) rows begun (refl, refl);
+    let o = opened_is a.0 t operation database (table_name table) a.2 in
+    let name = named_is (is_short_name table) table o.0 o.1 in
+    let is : with_row (bare s a.0.log) table operation ≡ t =
+    ap (λ (xs : List ℕ). with_row (bare s a.0.log) xs operation) name ∙ ap (λ (u : Standing). with_row u o.0 operation) (sym f.is) ∙ o.2 in
+    subst (λ (u : Standing). Tells s (OfRow operation database table) (row_taken u)) is (record {
+      events = f.run;
+      spells = ap (λ (xs : List Meaning). xs ++ Row operation table ∷ []) f.spells;
+      context = refl;
+      sound = sound_row (with_row (bare s a.0.log) table operation) rows (refl, refl);
     })

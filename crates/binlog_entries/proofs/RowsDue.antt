@@ -10,7 +10,7 @@ use Rattle.binlog_text.specs.declared.lines.Mark.{Mark}
 use Rattle.binlog_text.specs.declared.lines.Mark.TheVariants as marks
 use Rattle.binlog_text.specs.Lines.{Content, OfMark, OfHead, OfTable, OfColumn, OfGtid, OfSources, OfRow, OfValue}
 use Rattle.binlog_entries.specs.Bodies.{kind_of, takes, rows_body, body_of, is_row_due, next_body}
-use Rattle.binlog_entries.specs.Machine.{Standing, before_due, after_due, where_line, set_line, next_value, value_in, value_line, is_begun, commit_line, mark_line, take_content, step, runs, start, is_closed}
+use Rattle.binlog_entries.specs.Machine.{Standing, before_due, after_due, where_line, set_line, next_value, value_in, value_line, tell, mark_line, take_content, step, runs, start, is_closed}
 use Rattle.binlog_entries.specs.Meaning.{row_comes, head_has_rows, may_commit, has_rows, HaveRows}
 use Rattle.binlog_entries.proofs.KeptLaws.{step_open}
 use Rattle.binlog_entries.specs.Unread.{refusal_at}
@@ -21,9 +21,12 @@ use Rattle.binlog_entries.specs.declared.bodies.BodyKind.TheVariants as kinds
 use Rattle.binlog_entries.specs.declared.draft.RowPart.{RowPart}
 use Rattle.binlog_entries.specs.declared.draft.RowPart.TheVariants as parts
 use Rattle.binlog_entries.specs.declared.fault.EntryRefusal.TheVariants as refusals
-use Rattle.binlog_entries.proofs.TransactionLaws.{bind_ok, same_ok, if_ok, Sound}
+use Rattle.log_transactions.specs.Events as logged
+use Rattle.log_transactions.specs.Machine.{is_begun, unless}
+use Rattle.log_transactions.specs.declared.fault.EventRefusal.TheVariants as logs
+use Rattle.binlog_entries.proofs.TransactionLaws.{bind_ok, same_ok, if_ok, test_ok, told_ok, Sound}
 use Rattle.binlog_entries.proofs.RowLaws.{next_found}
-use Rattle.binlog_entries.proofs.Meanings.{test_ok, step_law, sound_start}
+use Rattle.binlog_entries.proofs.Meanings.{step_law, sound_start}
 
 -- ---- where a row is owed
 
@@ -116,34 +119,37 @@ head_filled (events.Rows operation ends) ls next = ends_owed ends (row_comes ls)
 head_filled _ ls next = refl
 
 -- a transaction that ends has no open statement
-commit_closed : (s t : Standing) → commit_line s ≡ Ok t → not s.is_open ≡ true
-unfolding commit_line
-commit_closed s t h = (and_parts (not s.is_open) (is_begun s.stage) (if_ok (not s.is_open && is_begun s.stage) _ refusals.Transaction t h).0).0
+commit_closed : (s t : Standing) → tell s logged.Commits ≡ Ok t → not s.log.is_open ≡ true
+commit_closed s t h = (and_parts (not s.log.is_open) (is_begun s.log.stage) (may (not s.log.is_open && is_begun s.log.stage) (told_ok s t logged.Commits h).0)).0
+  where
+    may : (b : Bool) → unless logs.Transaction b ≡ None → b ≡ true
+    may true e = refl
+    may false e = absurd cc
 
-mark_filled : (s u : Standing) (mark : Mark) → mark_line s mark ≡ Ok u → may_commit s.is_open mark ≡ true
+mark_filled : (s u : Standing) (mark : Mark) → mark_line s mark ≡ Ok u → may_commit s.log.is_open mark ≡ true
 mark_filled s u marks.Commit h = commit_closed s u h
 mark_filled s u marks.Committed h = commit_closed s u h
 mark_filled s u _ h = refl
 
-line_filled : (s u : Standing) (l : Content) (ls : List Content) → take_content s l ≡ Ok u → (is_row_due (next_body u.body l) ≡ true → row_comes ls ≡ true) → has_rows s.is_open l ls ≡ true
+line_filled : (s u : Standing) (l : Content) (ls : List Content) → take_content s l ≡ Ok u → (is_row_due (next_body u.body l) ≡ true → row_comes ls ≡ true) → has_rows s.log.is_open l ls ≡ true
 line_filled s u (OfHead event) ls h next = head_filled event ls next
 line_filled s u (OfMark mark) ls h next = mark_filled s u mark h
 line_filled s u _ ls h next = refl
 
-step_filled : (s t : Standing) (l : Content) (ls : List Content) → step s l ≡ Ok t → (is_row_due t.body ≡ true → row_comes ls ≡ true) → has_rows s.is_open l ls ≡ true
+step_filled : (s t : Standing) (l : Content) (ls : List Content) → step s l ≡ Ok t → (is_row_due t.body ≡ true → row_comes ls ≡ true) → has_rows s.log.is_open l ls ≡ true
 unfolding step
 step_filled s t l ls h next =
     let p = test_ok (takes s.body (kind_of l)) _ (refusal_at s.body) t h in
     let a = bind_ok (take_content s l) _ t p.1 in
     line_filled s a.0 l ls a.1 (λ d. next (ap (λ (u : Standing). is_row_due u.body) (sym (same_ok _ t a.2)) ∙ d))
 
-runs_filled : (s : Standing) (ls : List Content) (t : Standing) → Sound s → runs s ls ≡ Ok t → is_closed t.body ≡ true → HaveRows s.is_open ls
+runs_filled : (s : Standing) (ls : List Content) (t : Standing) → Sound s → runs s ls ≡ Ok t → is_closed t.body ≡ true → HaveRows s.log.is_open ls
 runs_filled s [] t sound h closed = tt
 runs_filled s (l ∷ ls) t sound h closed =
     let a = bind_ok (step s l) _ t h in
     let first = step_law s a.0 l sound a.1 in (
       step_filled s a.0 l ls a.1 (runs_owe a.0 ls t first.sound a.2 closed),
-      subst (λ (b : Bool). HaveRows b ls) (step_open s a.0 l a.1) (runs_filled a.0 ls t first.sound a.2 closed),
+      subst (λ (b : Bool). HaveRows b ls) (step_open s a.0 l sound a.1) (runs_filled a.0 ls t first.sound a.2 closed),
     )
 
 -- that of the lines of a log

@@ -1,31 +1,31 @@
--- What a state denotes, and the lines of events and transactions.
+-- What a row that is open denotes, and the lines of events and transactions.
 use Rattle.std.proofs.lemmas.Bool.{and_parts}
+use Rattle.std.proofs.lemmas.Grind.{flat_map-append}
 use Rattle.std.proofs.Common.{◌≡◌, ℕ, Bool, true, false, cond, not, ◌&&◌, List, [], ◌∷◌, ◌++◌, length, Option, Some, None, Result, Ok, Err, refl, sym, ap, ◌∙◌, subst, append_assoc, append-nil}
 use Rattle.std.specs.List.{flat_map}
-use Rattle.std.specs.FinSet as set
 use Rattle.lemmas.proofs.Tests.{never}
 use Rattle.gtid_text.specs.Canonical.{gtid_text}
-use Rattle.gtid_text.specs.declared.Gtid.{Gtid}
-use Rattle.journal_words.specs.Gtids.{gtid_of_word}
 use Rattle.row_images.specs.declared.value.Value.{Value}
 use Rattle.rows.specs.declared.change.Change.{Change}
-use Rattle.txn_journal.proofs.GtidLaws.{gtid_found}
+use Rattle.log_transactions.specs.Events.{Event}
+use Rattle.log_transactions.specs.Events as logged
+use Rattle.log_transactions.specs.Machine.{LogState, is_idle, behind, refusal, taken, and_then}
+use Rattle.log_transactions.specs.Machine as transactions
+use Rattle.log_transactions.specs.declared.fault.EventRefusal.{EventRefusal}
 use Rattle.binlog_text.specs.declared.lines.Mark.{Mark}
 use Rattle.binlog_text.specs.declared.lines.Mark.TheVariants as marks
 use Rattle.binlog_text.specs.declared.lines.RowOperation.{RowOperation}
 use Rattle.binlog_text.specs.declared.lines.RowOperation.TheVariants as operations
-use Rattle.binlog_text.specs.Lines.{Content, OfMark, OfGtid}
+use Rattle.binlog_text.specs.Lines.{Content, OfMark}
 use Rattle.binlog_entries.specs.Tables.{Table, find_table, with_mapping}
-use Rattle.binlog_entries.specs.Bodies.{is_row_due, takes, behind}
-use Rattle.binlog_entries.specs.Machine.{Standing, ◌>>=◌, or_refused, is_idle, is_named, is_begun, is_whole, change_of, with_change, finish_in, finish_by, finish_row, place_line, entry_of, with_entry, commit_line, flush_line, begin_line, gtid_line, is_closed}
-use Rattle.binlog_entries.specs.Meaning.{Meaning, Names, Row, Before, After, Commits, Context, means, behind_place, context_behind, meaning_of_values, meaning_of_change, meaning_of_entry, meaning_of_entries}
+use Rattle.binlog_entries.specs.Bodies.{is_row_due, takes, behind as body_behind}
+use Rattle.binlog_entries.specs.Machine.{Standing, ◌>>=◌, told_by, tell, is_whole, change_of, without_row, tell_row, finish_in, finish_by, finish_row, end_mapping, place_line, is_closed}
+use Rattle.binlog_entries.specs.Meaning.{Meaning, Names, Row, Before, After, Commits, Context, means, behind_place, context_behind, meaning_of_values, meaning_of_change}
+use Rattle.binlog_entries.specs.Telling.{row_events, columns_events, place_events, events_of}
 use Rattle.binlog_entries.specs.declared.bodies.Body.{Body}
 use Rattle.binlog_entries.specs.declared.bodies.Body.TheVariants as bodies
 use Rattle.binlog_entries.specs.declared.bodies.BodyKind.{BodyKind}
 use Rattle.binlog_entries.specs.declared.bodies.BodyKind.TheVariants as kinds
-use Rattle.binlog_entries.specs.declared.draft.LogStage.{LogStage}
-use Rattle.binlog_entries.specs.declared.draft.LogStage.TheVariants as stages
-use Rattle.binlog_entries.specs.declared.draft.File.TheVariants as files
 use Rattle.binlog_entries.specs.declared.draft.RowPart.{RowPart}
 use Rattle.binlog_entries.specs.declared.draft.RowPart.TheVariants as parts
 use Rattle.binlog_entries.specs.declared.fault.EntryRefusal.{EntryRefusal}
@@ -48,7 +48,38 @@ pub if_ok : {A : Type 0} (b : Bool) (x : A) (e : EntryRefusal) (y : A) → cond 
 if_ok true x e y h = (refl, same_ok x y h)
 if_ok false x e y h = absurd cc
 
--- ---- what a state denotes
+pub test_ok : {A : Type 0} (b : Bool) (r : Result A EntryRefusal) (e : EntryRefusal) (x : A) → cond b r (Err e) ≡ Ok x → (b ≡ true) × (r ≡ Ok x)
+test_ok true r e x h = (refl, h)
+test_ok false r e x h = absurd cc
+
+-- ---- the log
+
+-- the log was told an event
+pub told_ok : (s t : Standing) (e : Event) → tell s e ≡ Ok t → (refusal s.log e ≡ None) × (record s { log = behind s.log e } ≡ t)
+told_ok s t e h = by (refusal s.log e) h
+  where
+    by : (o : Option EventRefusal) → told_by o s e ≡ Ok t → (o ≡ None) × (record s { log = behind s.log e } ≡ t)
+    by None h = (refl, same_ok _ t h)
+    by (Some reason) h = absurd cc
+
+pub one_event : (log : LogState) (e : Event) → refusal log e ≡ None → transactions.runs log (e ∷ []) ≡ Ok (behind log e)
+one_event log e may = ap (λ (o : Option EventRefusal). and_then (taken o (behind log e)) (λ t. transactions.runs t [])) may
+
+pub events_taken : (o : Option EventRefusal) (u : LogState) (next : LogState → Result LogState EventRefusal) (t : LogState) → and_then (taken o u) next ≡ Ok t → (o ≡ None) × (next u ≡ Ok t)
+events_taken None u next t h = (refl, h)
+events_taken (Some reason) u next t h = absurd cc
+
+pub same_log : (s t : LogState) → (let r : Result LogState EventRefusal = Ok s in r) ≡ Ok t → s ≡ t
+same_log s t e = cc
+
+pub runs_more : (log u t : LogState) (xs ys : List Event) → transactions.runs log xs ≡ Ok u → transactions.runs u ys ≡ Ok t → transactions.runs log (xs ++ ys) ≡ Ok t
+runs_more log u t [] ys h k = ap (λ (v : LogState). transactions.runs v ys) (same_log log u h) ∙ k
+runs_more log u t (x ∷ xs) ys h k =
+    let p = events_taken (refusal log x) (behind log x) (λ v. transactions.runs v xs) u h in
+    ap (λ (o : Option EventRefusal). and_then (taken o (behind log x)) (λ v. transactions.runs v (xs ++ ys))) p.0
+    ∙ runs_more (behind log x) u t xs ys p.1 k
+
+-- ---- what a row that is open, and events, denote
 
 abbrev pub spelled_parts : RowOperation → RowPart → List Value → List Value → List Meaning
 spelled_parts operation parts.Head before after = []
@@ -61,19 +92,21 @@ abbrev pub spelled_row : Option (List ℕ) → RowOperation → RowPart → List
 spelled_row None operation part before after = []
 spelled_row (Some table) operation part before after = Row operation table ∷ spelled_parts operation part before after
 
-abbrev pub spelled_open : LogStage → Gtid → List Change → List Meaning → List Meaning
-spelled_open stages.Idle gtid changes row = []
-spelled_open stages.Named gtid changes row = Names (gtid_text gtid) ∷ []
-spelled_open stages.Begun gtid changes row = Names (gtid_text gtid) ∷ (flat_map meaning_of_change changes ++ row)
-
 abbrev pub row_of : Standing → List Meaning
 row_of s = spelled_row s.row s.operation s.part s.before s.after
 
-abbrev pub spelled_state : Standing → List Meaning
-spelled_state s = meaning_of_entries s.entries ++ spelled_open s.stage s.gtid s.changes (row_of s)
+abbrev pub event_spelled : Event → List Meaning
+event_spelled (logged.Names gtid) = Names (gtid_text gtid) ∷ []
+event_spelled (logged.Row change) = meaning_of_change change
+event_spelled logged.Commits = Commits ∷ []
+event_spelled logged.Flushes = Commits ∷ []
+event_spelled _ = []
+
+abbrev pub events_spelled : List Event → List Meaning
+events_spelled es = flat_map event_spelled es
 
 abbrev pub context_of : Standing → Context
-context_of s = record { is_over = s.is_over; mapping = s.mapping; tables = s.tables; row = s.row }
+context_of s = record { is_over = s.is_over; mapping = s.mapping; tables = s.tables; row = s.row; operation = s.operation; part = s.part; before = s.before; after = s.after }
 
 -- ---- what holds of a state
 
@@ -89,29 +122,19 @@ RowFits (Some table) parts.Before before after = after ≡ []
 RowFits (Some table) parts.After before after = Unit {0}
 
 pub record Sound (s : Standing) : Type 0 where
-  pub quiet : is_begun s.stage ≡ false → (s.changes ≡ []) × (s.row ≡ None)
   pub inside : is_rows s.body ≡ false → s.row ≡ None
-  pub begun : is_rows s.body ≡ true → is_begun s.stage ≡ true
-  pub closed : is_closed s.body ≡ true → is_idle s.stage ≡ true
+  pub closed : is_closed s.body ≡ true → is_idle s.log.stage ≡ true
   pub due : is_row_due s.body ≡ true → s.row ≡ None
   pub fits : RowFits s.row s.part s.before s.after
 
 -- the line was taken
 pub record Tells (s : Standing) (l : Content) (t : Standing) : Type 0 where
-  pub spells : spelled_state t ≡ spelled_state s ++ means (context_of s) l
+  pub events : transactions.runs s.log (events_of (context_of s) l) ≡ Ok t.log
+  pub spells : row_of s ++ means (context_of s) l ≡ events_spelled (events_of (context_of s) l) ++ row_of t
   pub context : context_of t ≡ context_behind (context_of s) l
   pub sound : Sound t
 
-pub stage_begun : (stage : LogStage) → is_begun stage ≡ true → stage ≡ stages.Begun
-stage_begun stages.Begun e = refl
-stage_begun stages.Named e = absurd cc
-stage_begun stages.Idle e = absurd cc
-
 -- ---- a row is finished
-
--- a state without an open row
-abbrev pub bare : Standing → List Change → Standing
-bare s cs = record s { row = None; before = []; after = []; changes = cs }
 
 -- what denotes the row that is open denotes the change that it becomes
 pub change_spelled : (operation : RowOperation) (part : RowPart) (table : List ℕ) (before after : List Value) (n : ℕ) → is_whole operation part (length before) (length after) n ≡ true → spelled_row (Some table) operation part before after ≡ meaning_of_change (change_of operation table before after)
@@ -124,98 +147,123 @@ pub flat_map_more : {A B : Type 0} (f : A → List B) (xs : List A) (x : A) → 
 flat_map_more f [] x = append-nil (f x)
 flat_map_more f (y ∷ ys) x = ap (λ zs. f y ++ zs) (flat_map_more f ys x) ∙ sym (append_assoc (f y) (flat_map f ys) (f x))
 
--- a whole row that joins the changes means what it meant before
-pub joined_spelled : (stage : LogStage) (gtid : Gtid) (cs : List Change) (c : Change) (row : List Meaning) → is_begun stage ≡ true → row ≡ meaning_of_change c → spelled_open stage gtid (cs ++ c ∷ []) [] ≡ spelled_open stage gtid cs row
-joined_spelled stages.Idle gtid cs c row b e = absurd cc
-joined_spelled stages.Named gtid cs c row b e = absurd cc
-joined_spelled stages.Begun gtid cs c row b e =
-    ap (λ (xs : List Meaning). Names (gtid_text gtid) ∷ xs)
-    (append-nil (flat_map meaning_of_change (cs ++ c ∷ [])) ∙ flat_map_more meaning_of_change cs c ∙ ap (λ (xs : List Meaning). flat_map meaning_of_change cs ++ xs) (sym e))
+-- a state without an open row
+abbrev pub bare : Standing → LogState → Standing
+bare s log = record s { row = None; before = []; after = []; log = log }
 
--- a state with a row is one of a transaction that has begun
-pub row_begun : (s : Standing) (table : List ℕ) → Sound s → s.row ≡ Some table → is_begun s.stage ≡ true
-row_begun s table sound e = begun (is_begun s.stage) refl
-  where
-    begun : (b : Bool) → is_begun s.stage ≡ b → b ≡ true
-    begun true h = refl
-    begun false h = let none : Some table ≡ None = sym e ∙ (sound.quiet h).1 in absurd cc
+abbrev pub finished : Standing → List Event
+finished s = row_events (context_of s) s.row
 
 pub record Finishes (s u : Standing) : Type 0 where
-  pub made : List Change
-  pub is : u ≡ bare s made
-  pub spells : spelled_state (bare s made) ≡ spelled_state s
-  pub quiet : is_begun s.stage ≡ false → made ≡ []
+  pub is : u ≡ bare s u.log
+  pub run : transactions.runs s.log (finished s) ≡ Ok u.log
+  pub spells : row_of s ≡ events_spelled (finished s)
 
 pub finish_none : (s : Standing) → Sound s → s.row ≡ None → Finishes s s
 finish_none s sound e =
-    let fits : RowFits None s.part s.before s.after = subst (λ (r : Option (List ℕ)). RowFits r s.part s.before s.after) e sound.fits in
-    let same : s ≡ bare s s.changes = λ i. record s { row = e i; before = fits.0 i; after = fits.1 i } in
-    record {
-      made = s.changes;
-      is = same;
-      spells = sym (ap spelled_state same);
-      quiet = λ b. (sound.quiet b).0;
+    let fits : RowFits None s.part s.before s.after = subst (λ (r : Option (List ℕ)). RowFits r s.part s.before s.after) e sound.fits in record {
+      is = λ i. record s { row = e i; before = fits.0 i; after = fits.1 i };
+      run = ap (λ (r : Option (List ℕ)). transactions.runs s.log (row_events (context_of s) r)) e;
+      spells =
+          ap (λ (r : Option (List ℕ)). spelled_row r s.operation s.part s.before s.after) e
+          ∙ sym (ap (λ (r : Option (List ℕ)). events_spelled (row_events (context_of s) r)) e);
     }
 
-pub finish_some : (s : Standing) (table : List ℕ) (n : ℕ) → Sound s → s.row ≡ Some table → is_whole s.operation s.part (length s.before) (length s.after) n ≡ true → Finishes s (with_change s table)
-finish_some s table n sound e whole =
-    let b = row_begun s table sound e in
-    let spelled_as : row_of s ≡ meaning_of_change (change_of s.operation table s.before s.after) =
-    ap (λ (r : Option (List ℕ)). spelled_row r s.operation s.part s.before s.after) e ∙ change_spelled s.operation s.part table s.before s.after n whole in
-    record {
-      made = s.changes ++ change_of s.operation table s.before s.after ∷ [];
+abbrev change_in : Standing → List ℕ → Change
+change_in s table = change_of s.operation table s.before s.after
+
+pub finish_some : (s u : Standing) (table : List ℕ) (n : ℕ) → s.row ≡ Some table → is_whole s.operation s.part (length s.before) (length s.after) n ≡ true → tell_row s table ≡ Ok u → Finishes s u
+finish_some s u table n e whole h =
+    let a = bind_ok (tell s (logged.Row (change_in s table))) (λ t. Ok (without_row t)) u h in
+    let q = told_ok s a.0 (logged.Row (change_in s table)) a.1 in
+    subst (Finishes s) (ap without_row q.1 ∙ same_ok _ u a.2) (record {
       is = refl;
-      spells = ap (λ (xs : List Meaning). meaning_of_entries s.entries ++ xs) (joined_spelled s.stage s.gtid s.changes (change_of s.operation table s.before s.after) (row_of s) b spelled_as);
-      quiet = λ f. absurd (let bad : true ≡ false = sym b ∙ f in cc);
-    }
+      run = ap (λ (r : Option (List ℕ)). transactions.runs s.log (row_events (context_of s) r)) e ∙ one_event s.log (logged.Row (change_in s table)) q.0;
+      spells =
+          ap (λ (r : Option (List ℕ)). spelled_row r s.operation s.part s.before s.after) e
+          ∙ change_spelled s.operation s.part table s.before s.after n whole
+          ∙ sym (append-nil (meaning_of_change (change_in s table)))
+          ∙ sym (ap (λ (r : Option (List ℕ)). events_spelled (row_events (context_of s) r)) e);
+    })
 
-pub finish_named : (s u : Standing) (table : List ℕ) (o : Option Table) → Sound s → s.row ≡ Some table → finish_in s table o ≡ Ok u → Finishes s u
-finish_named s u table None sound e h = absurd cc
-finish_named s u table (Some t) sound e h =
-    let p = if_ok (is_whole s.operation s.part (length s.before) (length s.after) (length t.columns)) (with_change s table) refusals.Columns u h in
-    subst (Finishes s) p.1 (finish_some s table (length t.columns) sound e p.0)
+pub finish_named : (s u : Standing) (table : List ℕ) (o : Option Table) → s.row ≡ Some table → finish_in s table o ≡ Ok u → Finishes s u
+finish_named s u table None e h = absurd cc
+finish_named s u table (Some t) e h =
+    let p = test_ok (is_whole s.operation s.part (length s.before) (length s.after) (length t.columns)) (tell_row s table) refusals.Columns u h in
+    finish_some s u table (length t.columns) e p.0 p.1
 
 pub finish_either : (s u : Standing) (r : Option (List ℕ)) → Sound s → s.row ≡ r → finish_by s r ≡ Ok u → Finishes s u
 finish_either s u None sound e h = subst (Finishes s) (same_ok s u h) (finish_none s sound e)
-finish_either s u (Some table) sound e h = finish_named s u table (find_table table s.tables) sound e h
+finish_either s u (Some table) sound e h = finish_named s u table (find_table table s.tables) e h
 
 pub finish_law : (s u : Standing) → Sound s → finish_row s ≡ Ok u → Finishes s u
 unfolding finish_row
 finish_law s u sound h = finish_either s u s.row sound refl h
 
+-- ---- a table joins the others
+
+pub record Maps (u t : Standing) : Type 0 where
+  pub is : t ≡ record u { tables = with_mapping u.tables u.mapping; mapping = None; log = t.log }
+  pub run : transactions.runs u.log (columns_events u.mapping) ≡ Ok t.log
+
+map_either : (u t : Standing) (o : Option Table) → u.mapping ≡ o → end_mapping u o ≡ Ok t → Maps u t
+map_either u t None e h = subst (Maps u) (same_ok u t h) (record {
+  is = λ i. record u { mapping = e i; tables = sym (ap (with_mapping u.tables) e) i };
+  run = ap (λ (o : Option Table). transactions.runs u.log (columns_events o)) e;
+})
+map_either u t (Some m) e h =
+    let columns : Event = logged.Columns (length m.columns) in
+    let a = bind_ok (tell u columns) (λ v. Ok (record v { tables = v.tables ++ m ∷ []; mapping = None })) t h in
+    let q = told_ok u a.0 columns a.1 in
+    subst (Maps u) (ap (λ (v : Standing). record v { tables = v.tables ++ m ∷ []; mapping = None }) q.1 ∙ same_ok _ t a.2) (record {
+      is = λ i. record u { tables = sym (ap (with_mapping u.tables) e) i; mapping = None; log = behind u.log columns };
+      run = ap (λ (o : Option Table). transactions.runs u.log (columns_events o)) e ∙ one_event u.log columns q.0;
+    })
+
+columns_nothing : (o : Option Table) → events_spelled (columns_events o) ≡ []
+columns_nothing None = refl
+columns_nothing (Some t) = refl
+
 -- ---- lines that begin and end events
 
 -- an event has ended
-abbrev pub rests : Standing → List Change → Body → Standing
-rests s cs body = record (bare s cs) { tables = with_mapping s.tables s.mapping; mapping = None; body = body }
+abbrev pub rests : Standing → LogState → Body → Standing
+rests s log body = record (bare s log) { tables = with_mapping s.tables s.mapping; mapping = None; body = body }
 
 -- a row is owed in the body of a rows event alone
 pub due_rows : (body : Body) → is_row_due body ≡ true → is_rows body ≡ true
 due_rows bodies.RowsDue d = refl
 due_rows _ d = absurd cc
 
--- a body that is no rows event, and is closed only where no transaction is open
-pub sound_rests : (s : Standing) (cs : List Change) (body : Body) → (is_begun s.stage ≡ false → cs ≡ []) → is_rows body ≡ false → (is_closed body ≡ true → is_idle s.stage ≡ true) → Sound (rests s cs body)
-sound_rests s cs body quiet rows closed = record {
-  quiet = λ b. (quiet b, refl);
-  inside = λ b. refl;
-  begun = λ b. absurd (let bad : true ≡ false = sym b ∙ rows in cc);
-  closed = closed;
-  due = λ d. refl;
-  fits = (refl, refl);
-}
-
-pub rest_law : (s t : Standing) (body : Body) (l : Content) → Sound s → place_line s ≡ Ok t → is_rows body ≡ false → is_closed body ≡ false → means (context_of s) l ≡ [] → context_behind (context_of s) l ≡ behind_place (context_of s) → Tells s l (record t { body = body })
+pub rest_law : (s t : Standing) (body : Body) (l : Content) → Sound s → place_line s ≡ Ok t → is_closed body ≡ false → events_of (context_of s) l ≡ place_events (context_of s) → means (context_of s) l ≡ [] → context_behind (context_of s) l ≡ behind_place (context_of s) → Tells s l (record t { body = body })
 unfolding place_line
-rest_law s t body l sound h rows closed nothing behind_is =
-    let a = bind_ok (finish_row s) _ t h in
+rest_law s t body l sound h closed told nothing behind_is =
+    let a = bind_ok (finish_row s) (λ u. end_mapping u u.mapping) t h in
     let f = finish_law s a.0 sound a.1 in
-    let is : t ≡ record (bare s f.made) { tables = with_mapping s.tables s.mapping; mapping = None } =
-    sym (same_ok _ t a.2) ∙ ap (λ (u : Standing). record u { tables = with_mapping u.tables u.mapping; mapping = None }) f.is in
+    let m = map_either a.0 t a.0.mapping refl a.2 in
+    let mapping : a.0.mapping ≡ s.mapping = ap (λ (v : Standing). v.mapping) f.is in
+    let run = runs_more s.log a.0.log t.log (finished s) (columns_events s.mapping) f.run (subst (λ (o : Option Table). transactions.runs a.0.log (columns_events o) ≡ Ok t.log) mapping m.run) in
+    let is : t ≡ record (rests s t.log body) { body = s.body } = m.is ∙ ap (λ (v : Standing). record v { tables = with_mapping v.tables v.mapping; mapping = None; log = t.log }) f.is in
+    let all : events_spelled (place_events (context_of s)) ++ [] ≡ row_of s =
+    append-nil (events_spelled (place_events (context_of s)))
+    ∙ flat_map-append event_spelled (finished s) (columns_events s.mapping)
+    ∙ ap (λ (xs : List Meaning). events_spelled (finished s) ++ xs) (columns_nothing s.mapping)
+    ∙ append-nil (events_spelled (finished s))
+    ∙ sym f.spells in
     subst (λ (u : Standing). Tells s l (record u { body = body })) (sym is) (record {
-      spells = f.spells ∙ sym (append-nil (spelled_state s)) ∙ ap (λ (xs : List Meaning). spelled_state s ++ xs) (sym nothing);
+      events = ap (transactions.runs s.log) told ∙ run;
+      spells =
+          ap (λ (xs : List Meaning). row_of s ++ xs) nothing
+          ∙ append-nil (row_of s)
+          ∙ sym all
+          ∙ ap (λ (es : List Event). events_spelled es ++ []) (sym told);
       context = sym behind_is;
-      sound = sound_rests s f.made body f.quiet rows (λ c. absurd (let bad : true ≡ false = sym c ∙ closed in cc));
+      sound = record {
+        inside = λ b. refl;
+        closed = λ c. absurd (let bad : true ≡ false = sym c ∙ closed in cc);
+        due = λ d. refl;
+        fits = (refl, refl);
+      };
     })
 
 pub place_law : (s t : Standing) → Sound s → place_line s ≡ Ok t → Tells s (OfMark marks.Place) (record t { body = bodies.Between })
@@ -226,27 +274,62 @@ automatic_law s t sound h = rest_law s t bodies.FileEnd (OfMark marks.Automatic)
 
 -- ---- lines that change no row
 
--- only the place of the line and the stage change
-pub still : (s : Standing) (l : Content) (body : Body) → Sound s → is_rows s.body ≡ false → is_rows body ≡ false → (is_closed body ≡ true → is_idle s.stage ≡ true) → means (context_of s) l ≡ [] → context_behind (context_of s) l ≡ context_of s → Tells s l (record s { body = body })
-still s l body sound outside rows closed nothing same = record {
-  spells = sym (append-nil (spelled_state s)) ∙ ap (λ (xs : List Meaning). spelled_state s ++ xs) (sym nothing);
-  context = sym same;
-  sound = record {
-    quiet = sound.quiet;
-    inside = λ b. sound.inside outside;
-    begun = λ b. absurd (let bad : true ≡ false = sym b ∙ rows in cc);
-    closed = closed;
-    due = λ d. sound.inside outside;
-    fits = sound.fits;
-  };
-}
+abbrev pub RowParts : Type 0
+RowParts = Option (List ℕ) × RowPart × List Value × List Value
+
+abbrev pub row_parts : Standing → RowParts
+row_parts s = (s.row, s.part, s.before, s.after)
+
+-- a line that is in no rows event means what its events do
+pub plain : (s t : Standing) (l : Content) → Sound s → is_rows s.body ≡ false → row_parts t ≡ row_parts s → (is_closed t.body ≡ true → is_idle t.log.stage ≡ true)
+    → transactions.runs s.log (events_of (context_of s) l) ≡ Ok t.log → means (context_of s) l ≡ events_spelled (events_of (context_of s) l) → context_of t ≡ context_behind (context_of s) l → Tells s l t
+plain s t l sound outside same closed run spells context =
+    let none = sound.inside outside in
+    let empty : t.row ≡ None = ap (λ (p : RowParts). p.0) same ∙ none in
+    record {
+      events = run;
+      spells =
+          ap (λ (r : Option (List ℕ)). spelled_row r s.operation s.part s.before s.after ++ means (context_of s) l) none
+          ∙ spells
+          ∙ sym (append-nil (events_spelled (events_of (context_of s) l)))
+          ∙ ap (λ (r : Option (List ℕ)). events_spelled (events_of (context_of s) l) ++ spelled_row r t.operation t.part t.before t.after) (sym empty);
+      context = context;
+      sound = record {
+        inside = λ b. empty;
+        closed = closed;
+        due = λ d. empty;
+        fits = subst (λ (p : RowParts). RowFits p.0 p.1 p.2 p.3) (sym same) sound.fits;
+      };
+    }
+
+-- a line that tells one event
+pub told_law : (s t : Standing) (l : Content) (e : Event) (body : Body) → Sound s → is_rows s.body ≡ false → (is_closed body ≡ true → refusal s.log e ≡ None → is_idle (behind s.log e).stage ≡ true)
+    → events_of (context_of s) l ≡ e ∷ [] → means (context_of s) l ≡ event_spelled e → context_behind (context_of s) l ≡ context_of s → tell s e ≡ Ok t → Tells s l (record t { body = body })
+told_law s t l e body sound outside closed told spells same h =
+    let q = told_ok s t e h in
+    subst (λ (u : Standing). Tells s l (record u { body = body })) q.1
+    (plain s (record s { body = body; log = behind s.log e }) l sound outside refl (λ c. closed c q.0)
+    (ap (transactions.runs s.log) told ∙ one_event s.log e q.0)
+    (spells ∙ sym (append-nil (event_spelled e)) ∙ ap events_spelled (sym told))
+    (sym same))
+
+-- the same of a line behind which the same may come
+pub told_here : (s t : Standing) (l : Content) (e : Event) → Sound s → is_rows s.body ≡ false → (is_closed s.body ≡ true → is_idle (behind s.log e).stage ≡ true)
+    → events_of (context_of s) l ≡ e ∷ [] → means (context_of s) l ≡ event_spelled e → context_behind (context_of s) l ≡ context_of s → tell s e ≡ Ok t → Tells s l t
+told_here s t l e sound outside closed told spells same h =
+    let q = told_ok s t e h in
+    subst (Tells s l) q.1
+    (plain s (record s { log = behind s.log e }) l sound outside refl closed
+    (ap (transactions.runs s.log) told ∙ one_event s.log e q.0)
+    (spells ∙ sym (append-nil (event_spelled e)) ∙ ap events_spelled (sym told))
+    (sym same))
 
 -- ---- bodies
 
 abbrev pub IsQuiet : Body → Body → Type 0
 IsQuiet old new = (is_rows old ≡ false) × (is_rows new ≡ false) × (is_closed new ≡ true → is_closed old ≡ true)
 
-pub comment_quiet : (body : Body) → takes body kinds.Comment ≡ true → IsQuiet body (behind body kinds.Comment)
+pub comment_quiet : (body : Body) → takes body kinds.Comment ≡ true → IsQuiet body (body_behind body kinds.Comment)
 comment_quiet bodies.Preamble e = (refl, refl, never)
 comment_quiet bodies.Start e = (refl, refl, never)
 comment_quiet bodies.Gtid e = (refl, refl, never)
@@ -255,43 +338,43 @@ comment_quiet bodies.Payload e = (refl, refl, never)
 comment_quiet bodies.Done e = (refl, refl, never)
 comment_quiet _ e = absurd cc
 
-pub setting_quiet : (body : Body) → takes body kinds.Setting ≡ true → IsQuiet body (behind body kinds.Setting)
+pub setting_quiet : (body : Body) → takes body kinds.Setting ≡ true → IsQuiet body (body_behind body kinds.Setting)
 setting_quiet bodies.Gtid e = (refl, refl, never)
 setting_quiet bodies.Query e = (refl, refl, never)
 setting_quiet _ e = absurd cc
 
-pub frame_quiet : (body : Body) → takes body kinds.Frame ≡ true → IsQuiet body (behind body kinds.Frame)
+pub frame_quiet : (body : Body) → takes body kinds.Frame ≡ true → IsQuiet body (body_behind body kinds.Frame)
 frame_quiet bodies.Preamble e = (refl, refl, never)
 frame_quiet bodies.Start e = (refl, refl, never)
 frame_quiet bodies.FileEnd e = (refl, refl, never)
 frame_quiet bodies.Closed e = (refl, refl, (λ e. e))
 frame_quiet _ e = absurd cc
 
-pub sources_quiet : (body : Body) → takes body kinds.Sources ≡ true → IsQuiet body (behind body kinds.Sources)
+pub sources_quiet : (body : Body) → takes body kinds.Sources ≡ true → IsQuiet body (body_behind body kinds.Sources)
 sources_quiet bodies.PreviousGtids e = (refl, refl, never)
 sources_quiet _ e = absurd cc
 
-pub ended_quiet : (body : Body) → takes body kinds.Ended ≡ true → IsQuiet body (behind body kinds.Ended)
+pub ended_quiet : (body : Body) → takes body kinds.Ended ≡ true → IsQuiet body (body_behind body kinds.Ended)
 ended_quiet bodies.Statement e = (refl, refl, never)
 ended_quiet _ e = absurd cc
 
-pub statement_quiet : (body : Body) → takes body kinds.Statement ≡ true → IsQuiet body (behind body kinds.Statement)
+pub statement_quiet : (body : Body) → takes body kinds.Statement ≡ true → IsQuiet body (body_behind body kinds.Statement)
 statement_quiet bodies.Query e = (refl, refl, never)
 statement_quiet _ e = absurd cc
 
-pub committed_quiet : (body : Body) → takes body kinds.Committed ≡ true → IsQuiet body (behind body kinds.Committed)
+pub committed_quiet : (body : Body) → takes body kinds.Committed ≡ true → IsQuiet body (body_behind body kinds.Committed)
 committed_quiet bodies.Xid e = (refl, refl, never)
 committed_quiet _ e = absurd cc
 
-pub gtid_quiet : (body : Body) → takes body kinds.Gtid ≡ true → IsQuiet body (behind body kinds.Gtid)
+pub gtid_quiet : (body : Body) → takes body kinds.Gtid ≡ true → IsQuiet body (body_behind body kinds.Gtid)
 gtid_quiet bodies.Gtid e = (refl, refl, never)
 gtid_quiet _ e = absurd cc
 
-pub column_quiet : (body : Body) → takes body kinds.Column ≡ true → IsQuiet body (behind body kinds.Column)
+pub column_quiet : (body : Body) → takes body kinds.Column ≡ true → IsQuiet body (body_behind body kinds.Column)
 column_quiet bodies.TableMap e = (refl, refl, never)
 column_quiet _ e = absurd cc
 
-pub tablemap_quiet : (body : Body) → takes body kinds.TableMap ≡ true → IsQuiet body (behind body kinds.TableMap)
+pub tablemap_quiet : (body : Body) → takes body kinds.TableMap ≡ true → IsQuiet body (body_behind body kinds.TableMap)
 tablemap_quiet bodies.Between e = (refl, refl, never)
 tablemap_quiet _ e = absurd cc
 
@@ -307,139 +390,5 @@ rows_only _ e = absurd cc
 -- ---- lines that change nothing
 
 -- a line that means nothing, and changes nothing but the place of the next one
-pub neutral : (s : Standing) (l : Content) (kind : BodyKind) → Sound s → IsQuiet s.body (behind s.body kind) → means (context_of s) l ≡ [] → context_behind (context_of s) l ≡ context_of s → Tells s l (record s { body = behind s.body kind })
-neutral s l kind sound q nothing same = still s l (behind s.body kind) sound q.0 q.1 (λ c. sound.closed (q.2 c)) nothing same
-
-pub closed_law : (s : Standing) → Sound s → takes s.body kinds.Closed ≡ true → is_idle s.stage ≡ true → Tells s (OfMark marks.Closed) (record s { body = bodies.Closed })
-closed_law s sound at idle = still s (OfMark marks.Closed) bodies.Closed sound (file_end s.body at) refl (λ c. idle) refl refl
-  where
-    file_end : (body : Body) → takes body kinds.Closed ≡ true → is_rows body ≡ false
-    file_end bodies.FileEnd e = refl
-    file_end _ e = absurd cc
-
--- ---- transactions
-
-stage_named : (stage : LogStage) → is_named stage ≡ true → stage ≡ stages.Named
-stage_named stages.Named e = refl
-stage_named stages.Idle e = absurd cc
-stage_named stages.Begun e = absurd cc
-
-pub begin_law : (s t : Standing) → Sound s → takes s.body kinds.Statement ≡ true → begin_line s ≡ Ok t → Tells s (OfMark marks.Begin) (record t { body = bodies.Statement })
-unfolding begin_line
-begin_law s t sound at h =
-    let p = if_ok (is_named s.stage) (record s { stage = stages.Begun }) refusals.Transaction t h in
-    let named = stage_named s.stage p.0 in
-    let quiet = sound.quiet (ap is_begun named) in
-    let row_none : row_of s ≡ [] = ap (λ (r : Option (List ℕ)). spelled_row r s.operation s.part s.before s.after) quiet.1 in
-    subst (λ (u : Standing). Tells s (OfMark marks.Begin) (record u { body = bodies.Statement })) p.1 (record {
-      spells =
-          ap (λ (xs : List Meaning). meaning_of_entries s.entries ++ (Names (gtid_text s.gtid) ∷ xs)) ((λ i. flat_map meaning_of_change (quiet.0 i) ++ row_none i))
-          ∙ ap (λ (stage : LogStage). meaning_of_entries s.entries ++ spelled_open stage s.gtid s.changes (row_of s)) (sym named)
-          ∙ sym (append-nil (spelled_state s));
-      context = refl;
-      sound = record {
-        quiet = λ b. absurd (let bad : true ≡ false = b in cc);
-        inside = λ b. quiet.1;
-        begun = λ b. refl;
-        closed = λ c. never c;
-        due = λ d. quiet.1;
-        fits = sound.fits;
-      };
-    })
-
--- a statement that flushes is a whole transaction
-pub flush_law : (s t : Standing) → Sound s → takes s.body kinds.Statement ≡ true → flush_line s ≡ Ok t → Tells s (OfMark marks.Flush) (record t { body = bodies.Statement })
-unfolding flush_line
-flush_law s t sound at h =
-    let p = if_ok (is_named s.stage) (with_entry s []) refusals.Transaction t h in
-    let named = stage_named s.stage p.0 in
-    let quiet = sound.quiet (ap is_begun named) in
-    let new : meaning_of_entries (s.entries ++ entry_of s.gtid [] ∷ []) ++ [] ≡ (meaning_of_entries s.entries ++ Names (gtid_text s.gtid) ∷ []) ++ Commits ∷ [] =
-    append-nil (meaning_of_entries (s.entries ++ entry_of s.gtid [] ∷ []))
-    ∙ flat_map_more meaning_of_entry s.entries (entry_of s.gtid [])
-    ∙ sym (append_assoc (meaning_of_entries s.entries) (Names (gtid_text s.gtid) ∷ []) (Commits ∷ [])) in
-    subst (λ (u : Standing). Tells s (OfMark marks.Flush) (record u { body = bodies.Statement })) p.1 (record {
-      spells = new ∙ ap (λ (stage : LogStage). (meaning_of_entries s.entries ++ spelled_open stage s.gtid s.changes (row_of s)) ++ Commits ∷ []) (sym named);
-      context = refl;
-      sound = record {
-        quiet = λ b. quiet;
-        inside = λ b. quiet.1;
-        begun = λ b. absurd (let bad : true ≡ false = sym b in cc);
-        closed = λ c. never c;
-        due = λ d. quiet.1;
-        fits = sound.fits;
-      };
-    })
-
-pub commit_law : (s t : Standing) (mark : Mark) (body : Body) → Sound s → is_rows s.body ≡ false → is_rows body ≡ false → is_closed body ≡ false → means (context_of s) (OfMark mark) ≡ Commits ∷ [] → context_behind (context_of s) (OfMark mark) ≡ context_of s → commit_line s ≡ Ok t → Tells s (OfMark mark) (record t { body = body })
-unfolding commit_line
-commit_law s t mark body sound outside rows closed commits same h =
-    let p = if_ok (not s.is_open && is_begun s.stage) (record (with_entry s s.changes) { changes = [] }) refusals.Transaction t h in
-    let begun = stage_begun s.stage (and_parts (not s.is_open) (is_begun s.stage) p.0).1 in
-    let none = sound.inside outside in
-    let row_none : row_of s ≡ [] = ap (λ (r : Option (List ℕ)). spelled_row r s.operation s.part s.before s.after) none in
-    let old : spelled_state s ≡ meaning_of_entries s.entries ++ (Names (gtid_text s.gtid) ∷ flat_map meaning_of_change s.changes) =
-    (λ i. meaning_of_entries s.entries ++ spelled_open (begun i) s.gtid s.changes (row_none i))
-    ∙ ap (λ (xs : List Meaning). meaning_of_entries s.entries ++ (Names (gtid_text s.gtid) ∷ xs)) (append-nil (flat_map meaning_of_change s.changes)) in
-    let new : meaning_of_entries (s.entries ++ entry_of s.gtid s.changes ∷ []) ++ [] ≡ (meaning_of_entries s.entries ++ (Names (gtid_text s.gtid) ∷ flat_map meaning_of_change s.changes)) ++ Commits ∷ [] =
-    append-nil (meaning_of_entries (s.entries ++ entry_of s.gtid s.changes ∷ []))
-    ∙ flat_map_more meaning_of_entry s.entries (entry_of s.gtid s.changes)
-    ∙ sym (append_assoc (meaning_of_entries s.entries) (Names (gtid_text s.gtid) ∷ flat_map meaning_of_change s.changes) (Commits ∷ [])) in
-    subst (λ (u : Standing). Tells s (OfMark mark) (record u { body = body })) p.1 (record {
-      spells = new ∙ ap (λ (xs : List Meaning). xs ++ Commits ∷ []) (sym old) ∙ ap (λ (xs : List Meaning). spelled_state s ++ xs) (sym commits);
-      context = sym same;
-      sound = record {
-        quiet = λ b. (refl, none);
-        inside = λ b. none;
-        begun = λ b. absurd (let bad : true ≡ false = sym b ∙ rows in cc);
-        closed = λ c. refl;
-        due = λ d. none;
-        fits = sound.fits;
-      };
-    })
-
--- a transaction is named
-abbrev with_gtid : Standing → Gtid → Standing
-with_gtid s g = record s { stage = stages.Named; gtid = g; is_fresh = false; file = files.Later; come = set.insert s.come g }
-
-pub gtid_law : (s t : Standing) (word : List ℕ) → Sound s → takes s.body kinds.Gtid ≡ true → gtid_line s word ≡ Ok t → Tells s (OfGtid word) t
-unfolding gtid_line
-gtid_law s t word sound at h =
-    let q = gtid_quiet s.body at in
-    let i = idle_or s.stage s word t h in
-    let idle = stage_idle s.stage i.0 in
-    let quiet = sound.quiet (ap is_begun idle) in
-    let text = (gtid_found word i.1 i.2).0 in
-    subst (λ (u : Standing). Tells s (OfGtid word) u) i.3 (record {
-      spells =
-          ap (λ (xs : List ℕ). meaning_of_entries s.entries ++ Names xs ∷ []) (sym text)
-          ∙ ap (λ (xs : List Meaning). xs ++ Names word ∷ []) (sym (append-nil (meaning_of_entries s.entries)))
-          ∙ ap (λ (stage : LogStage). (meaning_of_entries s.entries ++ spelled_open stage s.gtid s.changes (row_of s)) ++ Names word ∷ []) (sym idle);
-      context = refl;
-      sound = record {
-        quiet = λ b. quiet;
-        inside = λ b. quiet.1;
-        begun = λ b. absurd (let bad : true ≡ false = sym b ∙ q.0 in cc);
-        closed = λ c. absurd (closed_gtid s.body at c);
-        due = λ d. quiet.1;
-        fits = sound.fits;
-      };
-    })
-  where
-    stage_idle : (stage : LogStage) → is_idle stage ≡ true → stage ≡ stages.Idle
-    stage_idle stages.Idle e = refl
-    stage_idle stages.Named e = absurd cc
-    stage_idle stages.Begun e = absurd cc
-
-    closed_gtid : (body : Body) → takes body kinds.Gtid ≡ true → is_closed body ≡ true → ⊥
-    closed_gtid bodies.Gtid e c = absurd cc
-    closed_gtid _ e c = absurd cc
-
-    named : (s : Standing) (word : List ℕ) (o : Option Gtid) (t : Standing) → (or_refused refusals.Gtid o >>= λ g. Ok (with_gtid s g)) ≡ Ok t → (g : Gtid) × (o ≡ Some g) × (with_gtid s g ≡ t)
-    named s word None t e = absurd cc
-    named s word (Some g) t e = (g, refl, same_ok _ t e)
-
-    idle_or : (stage : LogStage) (s : Standing) (word : List ℕ) (t : Standing) → cond (not (is_idle stage)) (Err refusals.Gtid) (or_refused refusals.Gtid (gtid_of_word word) >>= λ g. Ok (with_gtid s g)) ≡ Ok t → (is_idle stage ≡ true) × (g : Gtid) × (gtid_of_word word ≡ Some g) × (with_gtid s g ≡ t)
-    idle_or stages.Idle s word t e = let n = named s word (gtid_of_word word) t e in (refl, n.0, n.1, n.2)
-    idle_or stages.Named s word t e = absurd cc
-    idle_or stages.Begun s word t e = absurd cc
+pub neutral : (s : Standing) (l : Content) (body : Body) → Sound s → IsQuiet s.body body → events_of (context_of s) l ≡ [] → means (context_of s) l ≡ [] → context_behind (context_of s) l ≡ context_of s → Tells s l (record s { body = body })
+neutral s l body sound q told nothing same = plain s (record s { body = body }) l sound q.0 refl (λ c. sound.closed (q.2 c)) (ap (transactions.runs s.log) told) (nothing ∙ ap events_spelled (sym told)) (sym same)

@@ -11,14 +11,16 @@ use Rattle.binlog_text.specs.Reading.{line_of}
 use Rattle.binlog_text.proofs.LinesFound.{line_found}
 use Rattle.binlog_entries.specs.Machine.{Standing, ◌>>=◌, judge, step, step_by, runs, is_closed}
 use Rattle.binlog_entries.specs.Machine as machine
-use Rattle.binlog_entries.specs.Meaning.{meaning_of_entries}
+use Rattle.log_transactions.specs.Meaning.{AreOfLog}
+use Rattle.binlog_entries.specs.Meaning.{nowhere, meaning_of_entries}
+use Rattle.binlog_entries.specs.Telling.{events_in}
 use Rattle.gtid_set.specs.Sets.{Gtids}
 use Rattle.binlog_entries.specs.Stream.{Progress, Reading, Stopped, named_line, next_number, progress_after, feed_byte, feed_bytes, start, Seen, LogValue, end_of_text, closing, IsPieceFault, IsTextFault, Ends, ended_line, HaveContents, IsLog, judges, numbered, IsRefused, IsUnfinished, Refuses}
 use Rattle.binlog_entries.specs.declared.fault.ReadFault.{ReadFault}
 use Rattle.binlog_entries.specs.declared.fault.ReadFault.TheVariants as faults
 use Rattle.binlog_entries.specs.declared.fault.EntryRefusal.{EntryRefusal}
 use Rattle.binlog_entries.proofs.TransactionLaws.{bind_ok}
-use Rattle.binlog_entries.proofs.Meanings.{entries_told}
+use Rattle.binlog_entries.proofs.Meanings.{log_told, entries_told}
 use Rattle.binlog_entries.proofs.KeptLaws.{before_told, varied_told, gapless_told}
 use Rattle.binlog_entries.proofs.RowsDue.{rows_told}
 use Rattle.binlog_entries.proofs.Pieces.{stopped_stays}
@@ -183,8 +185,8 @@ speak s (line ∷ lines) t h =
 
 -- ---- the whole
 
-ended_is : (b : Bool) (s : Standing) (n : ℕ) (rest : List ℕ) (x : LogValue) → end_of_text b s n rest ≡ Ok x → (b ≡ true) × (rest ≡ []) × (s.previous ≡ x.0) × (s.entries ≡ x.1) × (s.varied ≡ x.2)
-ended_is true s n [] x e = let same : (s.previous, s.entries, s.varied) ≡ x = told_same _ x e in (refl, refl, ap (λ (y : LogValue). y.0) same, ap (λ (y : LogValue). y.1) same, ap (λ (y : LogValue). y.2) same)
+ended_is : (b : Bool) (s : Standing) (n : ℕ) (rest : List ℕ) (x : LogValue) → end_of_text b s n rest ≡ Ok x → (b ≡ true) × (rest ≡ []) × (s.log.previous ≡ x.0) × (s.log.entries ≡ x.1) × (s.log.varied ≡ x.2)
+ended_is true s n [] x e = let same : (s.log.previous, s.log.entries, s.log.varied) ≡ x = told_same _ x e in (refl, refl, ap (λ (y : LogValue). y.0) same, ap (λ (y : LogValue). y.1) same, ap (λ (y : LogValue). y.2) same)
   where
     told_same : (x y : LogValue) → (let r : Result LogValue ReadFault = Ok x in r) ≡ Ok y → x ≡ y
     told_same x y e = cc
@@ -203,6 +205,10 @@ log_of opening text (Reading s n rest) x e h =
       whole = k.whole;
       contents = spoken.contents;
       content = spoken.content;
+      state = s;
+      run = spoken.run;
+      ended = d.0;
+      told = subst (λ (y : LogValue). AreOfLog opening (events_in nowhere spoken.contents) y.0 y.1 y.2) (λ i. (d.2 i, d.3 i, d.4 i)) (log_told opening spoken.contents s spoken.run d.0);
       means = entries_told opening spoken.contents s spoken.run d.0 ∙ ap meaning_of_entries d.3;
       before = sym d.2 ∙ before_told opening spoken.contents s spoken.run;
       varies = sym d.4 ∙ varied_told opening spoken.contents s spoken.run;

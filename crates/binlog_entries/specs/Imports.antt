@@ -6,11 +6,11 @@ use Rattle.journal.specs.Journals.{JournalValue}
 use Rattle.rows.specs.declared.schema.Table.{Table}
 use Rattle.txn_journal.specs.Spelling.{spelling_as}
 use Rattle.txn_journal.specs.Stamps.{right_stamps}
-use Rattle.txn_journal.specs.declared.lines.Version.TheVariants.{Two}
+use Rattle.txn_journal.specs.declared.lines.Version.TheVariants.{Three}
 use Rattle.binlog_entries.specs.Journals.{IsNoJournal}
 use Rattle.binlog_entries.specs.Keys.{varied_key, varied_places}
 use Rattle.binlog_entries.specs.Stream.{IsLog, Refuses}
-use Rattle.binlog_entries.specs.declared.varied.Varied.{Varied}
+use Rattle.log_transactions.specs.declared.varied.Varied.{Varied}
 use Rattle.binlog_entries.specs.declared.as_journal.LogFault.{LogFault}
 use Rattle.gtid_set.specs.declared.fault.SetFault.TheVariants.{Memory}
 use Rattle.binlog_entries.specs.declared.fault.ReadFault.TheVariants as reads
@@ -21,7 +21,7 @@ use Rattle.binlog_entries.specs.declared.import.ImportFault.TheVariants as fault
 abbrev pub AreKeysTaken : List Table → Bool → List Varied → Type 0
 AreKeysTaken tables bytes varied = bytes ≡ false → varied_key tables varied ≡ None
 
--- What is written is the text of a journal whose entries denote what the lines of the log's text mean, after what was executed before by
+-- What is written is the text, by version 3, of a journal whose entries denote what the lines of the log's text mean, after what was executed before by
 -- these lines. The server compares each key by its bytes, unless that is not required: then these are the places of the tables with a key
 -- that it doesn't.
 pub record Imports (tables : List Table) (opening : Gtids) (bytes : Bool) (text written places : List ℕ) : Type 0 where
@@ -30,7 +30,7 @@ pub record Imports (tables : List Table) (opening : Gtids) (bytes : Bool) (text 
   pub log : IsLog opening text journal.previous journal.entries varied
   pub keys : AreKeysTaken tables bytes varied
   pub varies : places ≡ varied_places 0 tables varied
-  pub spells : written ≡ spelling_as Two (right_stamps Two tables journal.entries) journal
+  pub spells : written ≡ spelling_as Three (right_stamps Three tables journal.entries) journal
 
 -- the text is that of a log whose keys are taken, and its first entry that does not follow those before it has this fault
 pub record IsUnfit (tables : List Table) (opening : Gtids) (bytes : Bool) (fault : LogFault) (text : List ℕ) : Type 0 where

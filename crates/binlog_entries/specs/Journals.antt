@@ -10,7 +10,7 @@ use Rattle.journal.specs.Writing.{is_number, is_writable}
 use Rattle.binlog_entries.specs.Limits.{limit_of}
 use Rattle.binlog_entries.specs.declared.as_journal.LogFault.{LogFault}
 use Rattle.binlog_entries.specs.declared.as_journal.LogFault.TheVariants as faults
-use Rattle.rows.specs.declared.limits.Limits.TheVariants.{Narrow}
+use Rattle.rows.specs.declared.limits.Limits.TheVariants.{Wide}
 
 -- the numbers of the entries are those of transactions
 abbrev pub are_numbered : List Entry → Bool
@@ -18,7 +18,7 @@ are_numbered entries = list_all (λ e. is_number e.gtid.number) entries
 
 -- an entry that is no larger than one may be follows, if these GTIDs were seen, and its own was not
 abbrev pub MayFollow : Gtids → Entry → Type 0
-MayFollow seen e = (set.contains seen e.gtid ≡ false) × (is_writable Narrow e ≡ true)
+MayFollow seen e = (set.contains seen e.gtid ≡ false) × (is_writable Wide e ≡ true)
 
 -- why an entry does not follow, if these GTIDs were seen: one that may has too many sources or intervals with them, or out of memory
 abbrev pub MayNotFollow : LogFault → Gtids → Entry → Type 0

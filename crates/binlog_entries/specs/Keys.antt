@@ -1,8 +1,8 @@
 -- Keys whose values the server compares otherwise than their bytes.
 use Rattle.std.specs.Prelude.{ℕ, ◌+◌, is_some, List, [], ◌∷◌, Option, Some, None, if◌then◌else◌}
 use Rattle.rows.specs.declared.schema.Table.{Table}
-use Rattle.binlog_entries.specs.Varied.{has_varied}
-use Rattle.binlog_entries.specs.declared.varied.Varied.{Varied}
+use Rattle.log_transactions.specs.Varied.{has_varied}
+use Rattle.log_transactions.specs.declared.varied.Varied.{Varied}
 
 -- the first of the columns of this table that is among them
 abbrev pub varied_column : List ℕ → List ℕ → List Varied → Option ℕ

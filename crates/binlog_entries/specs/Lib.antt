@@ -2,13 +2,13 @@ pub mod Tables
 pub mod Places
 pub mod Bodies
 pub mod Unread
-pub mod Files
 pub mod Varied
-pub mod Known
+pub mod Refusals
 pub mod Keys
 pub mod Machine
 pub mod Drafts
 pub mod Meaning
+pub mod Telling
 pub mod Stream
 pub mod Readers
 pub mod Limits

@@ -1,8 +1,6 @@
--- What lines make, one after another: tables, rows, changes, entries.
+-- What lines make, one after another: events of the log, and the types of columns and the row that are open.
 use Rattle.std.specs.Prelude.{◌≡◌, ◌⊎◌, ℕ, ◌+◌, ◌==◌, ◌&&◌, not, is_some, Bool, true, false, List, [], ◌∷◌, ◌++◌, length, Option, Some, None, Result, Ok, Err, if◌then◌else◌}
-use Rattle.std.specs.Str.{bytes_eq}
 use Rattle.gtid_text.specs.declared.Gtid.{Gtid}
-use Rattle.journal.specs.declared.Entry.{Entry}
 use Rattle.std.specs.FinSet as set
 use Rattle.gtid_set.specs.declared.fault.SetFault.{SetFault}
 use Rattle.gtid_set.specs.declared.fault.SetFault.TheVariants.{Memory}
@@ -12,10 +10,14 @@ use Rattle.journal_words.specs.Gtids.{gtid_of_word, set_of_word}
 use Rattle.row_images.specs.declared.value.Value.{Value}
 use Rattle.rows.specs.declared.change.Change.{Change}
 use Rattle.rows.specs.declared.change.Change.TheVariants as changes
-use Rattle.rows.specs.declared.limits.Limits.TheVariants.{Narrow}
-use Rattle.txn_journal.specs.Words.{name_of}
+use Rattle.log_transactions.specs.Events.{Event}
+use Rattle.log_transactions.specs.Events as logged
+use Rattle.log_transactions.specs.Machine.{LogState, OfJoined, has_table}
+use Rattle.log_transactions.specs.Machine as transactions
+use Rattle.log_transactions.specs.Tables.{table_name}
+use Rattle.log_transactions.specs.declared.fault.EventRefusal.{EventRefusal}
 use Rattle.binlog_text.specs.declared.types.ColumnType.{ColumnType}
-use Rattle.binlog_text.specs.Types.{parse_type}
+use Rattle.binlog_text.specs.Types.{compares_bytes, parse_type}
 use Rattle.binlog_text.specs.Values.{value_at}
 use Rattle.binlog_text.specs.declared.lines.LogEvent.{LogEvent}
 use Rattle.binlog_text.specs.declared.lines.LogEvent.TheVariants as events
@@ -25,18 +27,12 @@ use Rattle.binlog_text.specs.declared.lines.RowOperation.{RowOperation}
 use Rattle.binlog_text.specs.declared.lines.RowOperation.TheVariants as operations
 use Rattle.binlog_text.specs.Lines.{Column, Content, OfMark, OfHead, OfTable, OfColumn, OfGtid, OfSources, OfRow, OfValue}
 use Rattle.binlog_text.specs.Reading.{line_of}
-use Rattle.binlog_entries.specs.Tables.{Table, find_table, with_mapping, type_at}
+use Rattle.binlog_entries.specs.Tables.{Table, find_table, type_at}
 use Rattle.binlog_entries.specs.Bodies.{kind_of, takes, next_body}
 use Rattle.binlog_entries.specs.Unread.{refusal_at, refusal_of}
-use Rattle.binlog_entries.specs.Files.{is_later, next_file, has_come, come_behind}
-use Rattle.binlog_entries.specs.Varied.{varied_behind}
-use Rattle.binlog_entries.specs.declared.varied.Varied.{Varied}
+use Rattle.binlog_entries.specs.Refusals.{refusal_of_event}
 use Rattle.binlog_entries.specs.declared.bodies.Body.{Body}
 use Rattle.binlog_entries.specs.declared.bodies.Body.TheVariants as bodies
-use Rattle.binlog_entries.specs.declared.draft.File.{File}
-use Rattle.binlog_entries.specs.declared.draft.File.TheVariants as files
-use Rattle.binlog_entries.specs.declared.draft.LogStage.{LogStage}
-use Rattle.binlog_entries.specs.declared.draft.LogStage.TheVariants as stages
 use Rattle.binlog_entries.specs.declared.draft.RowPart.{RowPart}
 use Rattle.binlog_entries.specs.declared.draft.RowPart.TheVariants as parts
 use Rattle.binlog_entries.specs.declared.fault.EntryFault.{EntryFault}
@@ -76,21 +72,8 @@ Finds view (Err (faults.Set fault)) read = fault ≡ Memory
 -- how far the lines have come
 pub record Standing : Type 0 where
   pub body : Body
-  pub stage : LogStage
-  -- of the transaction that is open
-  pub gtid : Gtid
-  -- whether no GTID has come, and what was executed before, by the files
-  pub is_fresh : Bool
-  pub previous : Gtids
-  -- the file whose previous set is read, and what came: the opening set, the previous set of the first file, and GTIDs
-  pub file : File
-  pub come : Gtids
   -- rows of the statement have come, so that the next table is another statement's
   pub is_over : Bool
-  -- rows events of a statement have come, and none of them has ended it
-  pub is_open : Bool
-  -- the one database of the log, once it is named
-  pub database : Option (List ℕ)
   -- the table whose columns come, and those that the statement has mapped before
   pub mapping : Option Table
   pub tables : List Table
@@ -100,28 +83,18 @@ pub record Standing : Type 0 where
   pub part : RowPart
   pub before : List Value
   pub after : List Value
-  -- of the transaction that is open, and of those before it
-  pub changes : List Change
-  pub entries : List Entry
-  -- columns whose values the server compares otherwise than their bytes
-  pub varied : List Varied
+  -- what the lines told so far
+  pub log : LogState
 
-abbrev pub is_idle : LogStage → Bool
-is_idle stages.Idle = true
-is_idle _ = false
+-- ---- what the log is told
 
-abbrev pub is_named : LogStage → Bool
-is_named stages.Named = true
-is_named _ = false
+abbrev pub told_by : Option EventRefusal → Standing → Event → Result Standing EntryRefusal
+told_by None s e = Ok (record s { log = transactions.behind s.log e })
+told_by (Some refusal) s e = Err (refusal_of_event refusal)
 
-abbrev pub is_begun : LogStage → Bool
-is_begun stages.Begun = true
-is_begun _ = false
-
-abbrev pub same_stage : LogStage → LogStage → Bool
-same_stage stages.Idle = is_idle
-same_stage stages.Named = is_named
-same_stage stages.Begun = is_begun
+-- the log is told an event
+abbrev pub tell : Standing → Event → Result Standing EntryRefusal
+tell s e = told_by (transactions.refusal s.log e) s e
 
 -- ---- rows
 
@@ -137,14 +110,18 @@ change_of operations.Insert table before after = changes.Insert table after
 change_of operations.Delete table before after = changes.Delete table before
 change_of operations.Update table before after = changes.Update table before after
 
--- the row that is open is whole, and joins the changes
-abbrev pub with_change : Standing → List ℕ → Standing
-with_change s table = record s { row = None; before = []; after = []; changes = s.changes ++ change_of s.operation table s.before s.after ∷ [] }
+-- no row is open
+abbrev pub without_row : Standing → Standing
+without_row s = record s { row = None; before = []; after = [] }
+
+-- the row that is open is whole, and is told
+abbrev pub tell_row : Standing → List ℕ → Result Standing EntryRefusal
+tell_row s table = tell s (logged.Row (change_of s.operation table s.before s.after)) >>= λ t. Ok (without_row t)
 
 abbrev pub finish_in : Standing → List ℕ → Option Table → Result Standing EntryRefusal
 finish_in s table None = Err refusals.Table
 finish_in s table (Some t) =
-    if is_whole s.operation s.part (length s.before) (length s.after) (length t.columns) then Ok (with_change s table)
+    if is_whole s.operation s.part (length s.before) (length s.after) (length t.columns) then tell_row s table
     else Err refusals.Columns
 
 abbrev pub finish_by : Standing → Option (List ℕ) → Result Standing EntryRefusal
@@ -154,27 +131,14 @@ finish_by s (Some table) = finish_in s table (find_table table s.tables)
 unfoldable pub finish_row : Standing → Result Standing EntryRefusal
 finish_row s = finish_by s s.row
 
--- the log's database is this
-abbrev pub is_database : List ℕ → Option (List ℕ) → Bool
-is_database name None = false
-is_database name (Some database) = bytes_eq database name
-
--- it is this, or none is named yet
-abbrev pub may_be_database : List ℕ → Option (List ℕ) → Bool
-may_be_database name None = true
-may_be_database name (Some database) = bytes_eq database name
-
-abbrev pub open_row : Standing → RowOperation → Option (List ℕ) → Result Standing EntryRefusal
-open_row s operation None = Err refusals.Table
-open_row s operation (Some table) = Ok (record s { row = Some table; operation = operation; part = parts.Head })
-
-abbrev pub known_name : List ℕ → List Table → Option (List ℕ)
-known_name table tables = if is_some (find_table table tables) then name_of Narrow table else None
+abbrev pub open_row : Standing → RowOperation → List ℕ → Option (List ℕ) → Result Standing EntryRefusal
+open_row s operation database None = Err refusals.Table
+open_row s operation database (Some table) =
+    if has_table s.log database table then Ok (record s { row = Some table; operation = operation; part = parts.Head })
+    else Err refusals.Table
 
 abbrev pub begin_row : Standing → RowOperation → List ℕ → List ℕ → Result Standing EntryRefusal
-begin_row s operation database table =
-    if not (is_database database s.database) then Err refusals.Table
-    else open_row s operation (known_name table s.tables)
+begin_row s operation database table = open_row s operation database (table_name table)
 
 unfoldable pub row_line : Standing → RowOperation → List ℕ → List ℕ → Result Standing EntryRefusal
 row_line s operation database table = finish_row s >>= λ t. begin_row t operation database table
@@ -218,27 +182,20 @@ value_line s n text = value_in s s.part n text
 
 -- ---- tables
 
+-- the table that is mapped joins the others, and the number of its columns is told
+abbrev pub end_mapping : Standing → Option Table → Result Standing EntryRefusal
+end_mapping s None = Ok s
+end_mapping s (Some t) = tell s (logged.Columns (length t.columns)) >>= λ u. Ok (record u { tables = u.tables ++ t ∷ []; mapping = None })
+
 -- an event has ended
 unfoldable pub place_line : Standing → Result Standing EntryRefusal
-place_line s = do
-  t ← finish_row s
-  Ok (record t { tables = with_mapping t.tables t.mapping; mapping = None })
+place_line s = finish_row s >>= λ t. end_mapping t t.mapping
 
-abbrev pub map_table : Standing → List ℕ → Option (List ℕ) → Result Standing EntryRefusal
-map_table s database None = Err refusals.Table
-map_table s database (Some table) =
-    Ok (record s {
-      is_over = false;
-      database = Some database;
-      mapping = Some (record { name = table; columns = [] });
-      tables = if s.is_over then [] else s.tables;
-    })
+abbrev pub with_mapped : Standing → List ℕ → Standing
+with_mapped s table = record s { is_over = false; mapping = Some (record { name = table; columns = [] }); tables = if s.is_over then [] else s.tables }
 
 unfoldable pub table_line : Standing → List ℕ → List ℕ → Result Standing EntryRefusal
-table_line s database table =
-    if not (is_begun s.stage) then Err refusals.Transaction
-    else if not (may_be_database database s.database) then Err refusals.Table
-    else map_table s database (name_of Narrow table)
+table_line s database table = tell s (logged.Maps database table) >>= λ t. Ok (with_mapped t table)
 
 abbrev pub same_bool : Bool → Bool → Bool
 same_bool true b = b
@@ -250,8 +207,13 @@ add_column s (Some t) is_first type =
     if same_bool is_first (length t.columns == 0) then Ok (record s { mapping = Some (record { name = t.name; columns = t.columns ++ type ∷ [] }) })
     else Err refusals.Format
 
+-- what the next column of the table that is mapped, whose type this text describes, tells of how it is compared
+abbrev pub noted : LogState → Option Table → List ℕ → LogState
+noted log None text = log
+noted log (Some t) text = if compares_bytes text then log else transactions.behind log (logged.Varies t.name (length t.columns))
+
 abbrev pub note_varied : Standing → List ℕ → Standing
-note_varied s text = record s { varied = varied_behind s.varied s.mapping text }
+note_varied s text = record s { log = noted s.log s.mapping text }
 
 unfoldable pub column_line : Standing → Column → Result Standing EntryRefusal
 column_line s c = do
@@ -260,49 +222,15 @@ column_line s c = do
 
 -- ---- transactions
 
--- the transaction that is open, with these changes
-abbrev pub entry_of : Gtid → List Change → Entry
-entry_of gtid changes = record { gtid = gtid; txn = record { changes = changes } }
-
-abbrev pub with_entry : Standing → List Change → Standing
-with_entry s changes = record s { stage = stages.Idle; entries = s.entries ++ entry_of s.gtid changes ∷ [] }
-
-unfoldable pub commit_line : Standing → Result Standing EntryRefusal
-commit_line s =
-    if not s.is_open && is_begun s.stage then Ok (record (with_entry s s.changes) { changes = [] })
-    else Err refusals.Transaction
-
--- a statement that flushes is a transaction without changes
-unfoldable pub flush_line : Standing → Result Standing EntryRefusal
-flush_line s = if is_named s.stage then Ok (with_entry s []) else Err refusals.Transaction
-
-unfoldable pub begin_line : Standing → Result Standing EntryRefusal
-begin_line s = if is_named s.stage then Ok (record s { stage = stages.Begun }) else Err refusals.Transaction
-
 unfoldable pub gtid_line : Standing → List ℕ → Result Standing EntryRefusal
-gtid_line s word =
-    if not (is_idle s.stage) then Err refusals.Gtid
-    else (do
-      gtid ← or_refused refusals.Gtid (gtid_of_word word)
-      Ok (record s { stage = stages.Named; gtid = gtid; is_fresh = false; file = files.Later; come = set.insert s.come gtid }))
+gtid_line s word = or_refused refusals.Gtid (gtid_of_word word) >>= λ gtid. tell s (logged.Names gtid)
 
-abbrev pub previous_behind : Bool → Gtids → Gtids → Gtids
-previous_behind fresh previous gtids = if fresh then set.union previous gtids else previous
-
-abbrev pub join_sources : Standing → Gtids → Result Standing EntryRefusal
-join_sources s gtids =
-    if has_come s.file s.come gtids then Ok (record s { previous = previous_behind s.is_fresh s.previous gtids; come = come_behind s.file s.come gtids })
-    else Err refusals.Gap
-
--- what was executed before the first GTID; later files repeat what has come
 unfoldable pub sources_line : Standing → List ℕ → Result Standing EntryRefusal
-sources_line s word = do
-  gtids ← or_refused refusals.Gtid (set_of_word word)
-  join_sources s gtids
+sources_line s word = or_refused refusals.Gtid (set_of_word word) >>= λ gtids. tell s (logged.Precedes gtids)
 
 unfoldable pub head_line : Standing → LogEvent → Result Standing EntryRefusal
-head_line s (events.Rows operation ends) = if is_begun s.stage then Ok (record s { is_over = true; is_open = not ends }) else Err refusals.Transaction
-head_line s events.PreviousGtids = Ok (record s { file = next_file s.file })
+head_line s (events.Rows operation ends) = tell s (logged.Rows ends) >>= λ t. Ok (record t { is_over = true })
+head_line s events.PreviousGtids = tell s logged.Opens
 head_line s _ = Ok s
 
 -- ---- lines
@@ -312,18 +240,18 @@ mark_line s marks.Place = place_line s
 mark_line s marks.Automatic = place_line s
 mark_line s marks.Where = where_line s
 mark_line s marks.Set = set_line s
-mark_line s marks.Begin = begin_line s
-mark_line s marks.Commit = commit_line s
-mark_line s marks.Committed = commit_line s
-mark_line s marks.Savepoint = if same_stage s.stage stages.Begun then Ok s else Err refusals.Transaction
-mark_line s marks.Closed = if same_stage s.stage stages.Idle then Ok s else Err refusals.Transaction
+mark_line s marks.Begin = tell s logged.Begins
+mark_line s marks.Commit = tell s logged.Commits
+mark_line s marks.Committed = tell s logged.Commits
+mark_line s marks.Savepoint = tell s logged.Savepoint
+mark_line s marks.Closed = tell s logged.Ends
 mark_line s marks.Ended = Ok s
 mark_line s marks.Empty = Ok s
 mark_line s marks.Comment = Ok s
 mark_line s marks.Setting = Ok s
 mark_line s marks.Frame = Ok s
 mark_line s marks.Extra = Ok s
-mark_line s marks.Flush = flush_line s
+mark_line s marks.Flush = tell s logged.Flushes
 
 abbrev pub take_content : Standing → Content → Result Standing EntryRefusal
 take_content s (OfMark mark) = mark_line s mark
@@ -352,11 +280,10 @@ judge s text = step_by s text (line_of text)
 
 -- ---- faults of lines with which nothing is wrong
 
--- it is so of the set that a word names, or of that set with what was executed before, or with what came, if it joins them
+-- it is so of the set that a word names, or of what that set joins
 abbrev pub OfNamed : (Gtids → Type 0) → Standing → Option Gtids → Type 0
 OfNamed Has s None = ⊥
-OfNamed Has s (Some gtids) =
-    Has gtids ⊎ (((s.is_fresh ≡ true) × Has (set.union s.previous gtids)) ⊎ ((is_later s.file ≡ false) × Has (set.union s.come gtids)))
+OfNamed Has s (Some gtids) = Has gtids ⊎ OfJoined Has s.log gtids
 
 -- out of memory, or the set that a word names, or that set with what was executed before or came, has too many sources or intervals
 abbrev pub IsSourcesFault : Standing → List ℕ → SetFault → Type 0
@@ -369,7 +296,7 @@ WithNamed Has come (Some gtid) = Has (set.insert come gtid)
 
 -- out of memory, or what came has too many sources or intervals with the GTID that a word names
 abbrev pub IsGtidFault : Standing → List ℕ → SetFault → Type 0
-IsGtidFault s word fault = IsMemoryOr (WithNamed HasManySources s.come (gtid_of_word word)) (WithNamed HasManyIntervals s.come (gtid_of_word word)) fault
+IsGtidFault s word fault = IsMemoryOr (WithNamed HasManySources s.log.come (gtid_of_word word)) (WithNamed HasManyIntervals s.log.come (gtid_of_word word)) fault
 
 -- the end of an event keeps its row and its table, and that of a transaction its changes; other marks ask for nothing
 abbrev pub IsMarkFault : Mark → SetFault → Type 0
@@ -407,15 +334,7 @@ IsLineFault s text fault = IsFaultBy s (line_of text) fault
 abbrev pub start : Gtids → Standing
 start opening = record {
   body = bodies.Preamble;
-  stage = stages.Idle;
-  gtid = record { source = 0; number = 1 };
-  is_fresh = true;
-  previous = set.empty;
-  file = files.Unread;
-  come = opening;
   is_over = false;
-  is_open = false;
-  database = None;
   mapping = None;
   tables = [];
   row = None;
@@ -423,9 +342,7 @@ start opening = record {
   part = parts.Head;
   before = [];
   after = [];
-  changes = [];
-  entries = [];
-  varied = [];
+  log = transactions.start opening;
 }
 
 -- the last file has ended

@@ -21,11 +21,13 @@ use Rattle.binlog_text.specs.declared.lines.RowOperation.{RowOperation}
 use Rattle.binlog_text.specs.declared.lines.RowOperation.TheVariants as operations
 use Rattle.binlog_text.specs.Lines.{Content, OfMark, OfHead, OfTable, OfColumn, OfGtid, OfSources, OfRow, OfValue}
 use Rattle.binlog_entries.specs.Tables.{Table, with_mapping, type_at}
-use Rattle.binlog_entries.specs.Files.{next_file, has_come, come_behind}
+use Rattle.log_transactions.specs.Files.{next_file, has_come, come_behind}
 use Rattle.binlog_entries.specs.Varied.{varied_behind}
-use Rattle.binlog_entries.specs.declared.varied.Varied.{Varied}
-use Rattle.binlog_entries.specs.declared.draft.File.{File}
-use Rattle.binlog_entries.specs.declared.draft.File.TheVariants as files
+use Rattle.log_transactions.specs.declared.varied.Varied.{Varied}
+use Rattle.log_transactions.specs.declared.stages.FileOrder.{FileOrder}
+use Rattle.log_transactions.specs.declared.stages.FileOrder.TheVariants as files
+use Rattle.binlog_entries.specs.declared.draft.RowPart.{RowPart}
+use Rattle.binlog_entries.specs.declared.draft.RowPart.TheVariants as parts
 use Rattle.binlog_entries.specs.Machine.{Standing, runs, start, is_closed}
 
 -- what a line means for transactions: a GTID, a row of a table, the images of a row with the values of their columns, and the end
@@ -39,16 +41,20 @@ pub data Meaning : Type 0 where
 
 -- ---- of lines
 
--- The tables that the statement maps, and the table of the row. They determine the types of the values that follow.
+-- The tables that the statement maps, the table of the row, and what has come of it. The tables determine the types of the values that follow.
 pub record Context : Type 0 where
   pub is_over : Bool
   pub mapping : Option Table
   pub tables : List Table
   pub row : Option (List ℕ)
+  pub operation : RowOperation
+  pub part : RowPart
+  pub before : List Value
+  pub after : List Value
 
 -- before the first line
 abbrev pub nowhere : Context
-nowhere = record { is_over = false; mapping = None; tables = []; row = None }
+nowhere = record { is_over = false; mapping = None; tables = []; row = None; operation = operations.Insert; part = parts.Head; before = []; after = [] }
 
 -- the value that a text shows in the nth column of the row
 abbrev pub shown_in : Option ColumnType → List ℕ → Option Value
@@ -84,7 +90,7 @@ means c (OfRow operation database table) = Row operation table ∷ []
 means c (OfValue n text) = Holds n (shown_in (type_at c.row c.tables (n - 1)) text) ∷ []
 
 abbrev pub behind_place : Context → Context
-behind_place c = record { is_over = c.is_over; mapping = None; tables = with_mapping c.tables c.mapping; row = None }
+behind_place c = record c { mapping = None; tables = with_mapping c.tables c.mapping; row = None; before = []; after = [] }
 
 abbrev pub with_column : Option Table → Option ColumnType → Option Table
 with_column None type = None
@@ -94,8 +100,8 @@ with_column (Some t) (Some type) = Some (record { name = t.name; columns = t.col
 abbrev pub behind_mark : Context → Mark → Context
 behind_mark c marks.Place = behind_place c
 behind_mark c marks.Automatic = behind_place c
-behind_mark c marks.Where = c
-behind_mark c marks.Set = c
+behind_mark c marks.Where = record c { part = parts.Before }
+behind_mark c marks.Set = record c { part = parts.After }
 behind_mark c marks.Begin = c
 behind_mark c marks.Commit = c
 behind_mark c marks.Ended = c
@@ -110,7 +116,7 @@ behind_mark c marks.Extra = c
 behind_mark c marks.Flush = c
 
 abbrev pub behind_head : Context → LogEvent → Context
-behind_head c (events.Rows operation ends) = record { is_over = true; mapping = c.mapping; tables = c.tables; row = c.row }
+behind_head c (events.Rows operation ends) = record c { is_over = true }
 behind_head c events.Start = c
 behind_head c events.PreviousGtids = c
 behind_head c events.Gtid = c
@@ -120,16 +126,22 @@ behind_head c events.Payload = c
 behind_head c events.Rotate = c
 behind_head c events.Stop = c
 
+-- one value more
+abbrev pub with_value : Context → RowPart → Option Value → Context
+with_value c parts.Before (Some v) = record c { before = c.before ++ v ∷ [] }
+with_value c parts.After (Some v) = record c { after = c.after ++ v ∷ [] }
+with_value c _ _ = c
+
 -- after rows the next table is another statement's
 abbrev pub context_behind : Context → Content → Context
 context_behind c (OfMark mark) = behind_mark c mark
 context_behind c (OfHead event) = behind_head c event
-context_behind c (OfTable database table) = record { is_over = false; mapping = Some (record { name = table; columns = [] }); tables = if c.is_over then [] else c.tables; row = c.row }
-context_behind c (OfColumn column) = record { is_over = c.is_over; mapping = with_column c.mapping (parse_type column.column_type); tables = c.tables; row = c.row }
+context_behind c (OfTable database table) = record c { is_over = false; mapping = Some (record { name = table; columns = [] }); tables = if c.is_over then [] else c.tables }
+context_behind c (OfColumn column) = record c { mapping = with_column c.mapping (parse_type column.column_type) }
 context_behind c (OfGtid gtid) = c
 context_behind c (OfSources sources more) = c
-context_behind c (OfRow operation database table) = record { is_over = c.is_over; mapping = c.mapping; tables = c.tables; row = Some table }
-context_behind c (OfValue n text) = c
+context_behind c (OfRow operation database table) = record c { row = Some table; operation = operation; part = parts.Head; before = []; after = [] }
+context_behind c (OfValue n text) = with_value c c.part (shown_in (type_at c.row c.tables (n - 1)) text)
 
 -- what lines mean, in order
 abbrev pub meaning : Context → List Content → List Meaning
@@ -209,13 +221,13 @@ HaveRows is_open [] = Unit {0}
 HaveRows is_open (l ∷ ls) = (has_rows is_open l ls ≡ true) × HaveRows (open_by is_open l) ls
 
 -- the file whose previous set is read, after a line: what comes behind a GTID is of a later one
-abbrev pub file_by : File → Content → File
+abbrev pub file_by : FileOrder → Content → FileOrder
 file_by file (OfHead events.PreviousGtids) = next_file file
 file_by file (OfGtid gtid) = files.Later
 file_by file _ = file
 
 -- what came, after the set, or the GTID, that a word names
-abbrev pub come_with : File → Gtids → Option Gtids → Gtids
+abbrev pub come_with : FileOrder → Gtids → Option Gtids → Gtids
 come_with file come None = come
 come_with file come (Some gtids) = come_behind file come gtids
 
@@ -224,23 +236,23 @@ come_with_gtid come None = come
 come_with_gtid come (Some gtid) = set.insert come gtid
 
 -- what came, after a line
-abbrev pub come_by : File → Gtids → Content → Gtids
+abbrev pub come_by : FileOrder → Gtids → Content → Gtids
 come_by file come (OfSources sources more) = come_with file come (set_of_word sources)
 come_by file come (OfGtid gtid) = come_with_gtid come (gtid_of_word gtid)
 come_by file come _ = come
 
-abbrev pub named_has_come : File → Gtids → Option Gtids → Bool
+abbrev pub named_has_come : FileOrder → Gtids → Option Gtids → Bool
 named_has_come file come None = false
 named_has_come file come (Some gtids) = has_come file come gtids
 
 -- a line of a previous set of a later file lies within what came
-abbrev pub set_has_come : File → Gtids → Content → Bool
+abbrev pub set_has_come : FileOrder → Gtids → Content → Bool
 set_has_come file come (OfSources sources more) = named_has_come file come (set_of_word sources)
 set_has_come file come _ = true
 
 -- The previous set of each file but the first lies within what came before it: what came at the start, the previous set of the first file,
 -- and the GTIDs of lines.
-abbrev pub NoGap : File → Gtids → List Content → Type 0
+abbrev pub NoGap : FileOrder → Gtids → List Content → Type 0
 NoGap file come [] = Unit {0}
 NoGap file come (l ∷ ls) = (set_has_come file come l ≡ true) × NoGap (file_by file l) (come_by file come l) ls
 
@@ -265,4 +277,4 @@ meaning_of_entries entries = flat_map meaning_of_entry entries
 
 -- What lines of a whole log mean is what their entries mean.
 abbrev pub LinesMeanEntries : Type 0
-LinesMeanEntries = (opening : Gtids) (lines : List Content) (s : Standing) → runs (start opening) lines ≡ Ok s → is_closed s.body ≡ true → meaning nowhere lines ≡ meaning_of_entries s.entries
+LinesMeanEntries = (opening : Gtids) (lines : List Content) (s : Standing) → runs (start opening) lines ≡ Ok s → is_closed s.body ≡ true → meaning nowhere lines ≡ meaning_of_entries s.log.entries

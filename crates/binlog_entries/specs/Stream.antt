@@ -8,15 +8,17 @@ use Rattle.gtid_set.specs.Sets.{Gtids}
 use Rattle.journal.specs.declared.Entry.{Entry}
 use Rattle.txn_journal.specs.Words.{IsOneLine}
 use Rattle.binlog_text.specs.Lines.{Content, IsLine}
-use Rattle.binlog_entries.specs.Machine.{Standing, ◌>>=◌, judge, is_closed, IsLineFault}
+use Rattle.binlog_entries.specs.Machine.{Standing, ◌>>=◌, judge, runs, is_closed, IsLineFault}
 use Rattle.binlog_entries.specs.Machine as machine
 use Rattle.binlog_entries.specs.Meaning.{meaning, nowhere, meaning_of_entries, executed_before, varied_in, HaveRows, NoGap}
-use Rattle.binlog_entries.specs.declared.varied.Varied.{Varied}
+use Rattle.log_transactions.specs.declared.varied.Varied.{Varied}
 use Rattle.binlog_entries.specs.declared.fault.ReadFault.{ReadFault}
 use Rattle.binlog_entries.specs.declared.fault.ReadFault.TheVariants as faults
 use Rattle.binlog_entries.specs.declared.fault.EntryRefusal.{EntryRefusal}
 use Rattle.binlog_entries.specs.declared.fault.EntryRefusal.TheVariants as refusals
-use Rattle.binlog_entries.specs.declared.draft.File.TheVariants as files
+use Rattle.log_transactions.specs.declared.stages.FileOrder.TheVariants as files
+use Rattle.log_transactions.specs.Meaning.{AreOfLog}
+use Rattle.binlog_entries.specs.Telling.{events_in}
 
 -- How far the reading has come: how many whole lines, and the bytes of the next; or it has stopped.
 pub data Progress : Type 0 where
@@ -123,7 +125,7 @@ at_end (Ok _) value = Ok value
 at_end (Err fault) value = Err fault
 
 abbrev pub end_of_text : Bool → Standing → ℕ → List ℕ → Result LogValue ReadFault
-end_of_text b s n rest = at_end (ends_at b n rest) (s.previous, s.entries, s.varied)
+end_of_text b s n rest = at_end (ends_at b n rest) (s.log.previous, s.log.entries, s.log.varied)
 
 -- the end of the text
 abbrev pub closing : Progress → Result LogValue ReadFault
@@ -145,15 +147,20 @@ HaveContents [] [] = Unit {0}
 HaveContents (line ∷ lines) (l ∷ ls) = IsLine l line × HaveContents lines ls
 HaveContents _ _ = ⊥
 
--- The text is lines with content, and what they mean is what the entries denote, in order. This was executed before, and these are the
--- columns that the server compares otherwise than their bytes. No statement lacks its rows, and between two files nothing lacks that is
--- not in the opening set.
+-- The text is lines with content, which are taken, each where it stands, up to the end of the last file. What they tell is the events of a
+-- log with these entries; and what they mean is what the entries denote, in order. This was executed before, and these are the columns that
+-- the server compares otherwise than their bytes. No statement lacks its rows, and between two files nothing lacks that is not in the
+-- opening set.
 pub record IsLog (opening : Gtids) (text : List ℕ) (previous : Gtids) (entries : List Entry) (varied : List Varied) : Type 0 where
   pub lines : List (List ℕ)
   pub parts : text ≡ flat_map ended_line lines
   pub whole : AllByRecursion IsOneLine lines
   pub contents : List Content
   pub content : HaveContents lines contents
+  pub state : Standing
+  pub run : runs (machine.start opening) contents ≡ Ok state
+  pub ended : is_closed state.body ≡ true
+  pub told : AreOfLog opening (events_in nowhere contents) previous entries varied
   pub means : meaning nowhere contents ≡ meaning_of_entries entries
   pub before : previous ≡ executed_before set.empty contents
   pub varies : varied ≡ varied_in nowhere [] contents

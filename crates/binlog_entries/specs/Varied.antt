@@ -1,17 +1,9 @@
 -- Columns whose values the server compares otherwise than their bytes.
-use Rattle.std.specs.Prelude.{ℕ, ◌==◌, ◌&&◌, ◌||◌, Bool, false, List, [], ◌∷◌, ◌++◌, length, Option, Some, None, if◌then◌else◌}
-use Rattle.std.specs.Str.{bytes_eq}
+use Rattle.std.specs.Prelude.{ℕ, List, length, Option, Some, None, if◌then◌else◌}
 use Rattle.binlog_text.specs.Types.{compares_bytes}
+use Rattle.log_transactions.specs.Varied.{with_varied}
+use Rattle.log_transactions.specs.declared.varied.Varied.{Varied}
 use Rattle.binlog_entries.specs.Tables.{Table}
-use Rattle.binlog_entries.specs.declared.varied.Varied.{Varied}
-
--- the column of this table, counted from 0, is among them
-abbrev pub has_varied : List ℕ → ℕ → List Varied → Bool
-has_varied table column [] = false
-has_varied table column (v ∷ vs) = (bytes_eq v.table table && (v.column == column)) || has_varied table column vs
-
-abbrev pub with_varied : List Varied → List ℕ → ℕ → List Varied
-with_varied vs table column = if has_varied table column vs then vs else vs ++ record { table = table; column = column } ∷ []
 
 -- after the next column of the table that is mapped, whose type this text describes
 abbrev pub varied_behind : List Varied → Option Table → List ℕ → List Varied

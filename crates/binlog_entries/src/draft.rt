@@ -1,52 +1,25 @@
 //! Entries as far as the lines have come.
 ghost use Rattle.std.specs.Prelude.{◌≡◌, true, length, IfOk, option_map};
 ghost use Rattle.gtid_set.specs.Laws.{HaveNumbers};
-ghost use Rattle.journal.specs.Writing.{is_number};
 ghost use Rattle.binlog_entries.specs.Journals.{are_numbered};
 ghost use Rattle.binlog_entries.specs.Machine.{Finds};
-ghost use Rattle.binlog_entries.specs.Files.{has_come};
 
 use crate::bodies::{Body, kind_of, next_body};
 use crate::fault::{EntryFault, EntryRefusal};
-use crate::joined::{has_all, join};
-use crate::parts::{
-    after_due, before_due, change_of, is_database, is_whole, may_be_database, parse_value, type_at,
-};
-use crate::tables::{Mapped, Tables, name_of};
+use crate::parts::{after_due, before_due, change_of, is_whole, parse_value, type_at};
+use crate::tables::{Mapped, Tables};
 use crate::unread::{refusal_at, refusal_of};
-use crate::varied::{Varied, VariedColumns};
 use binlog_text::{
     Column, ColumnType, LogEvent, LogLine, Mark, RowOperation, compares_bytes, parse_type,
     read_line,
 };
-use gtid_set::{GtidSet, SetFault};
-use gtid_text::{Gtid, SourceId};
+use gtid_set::GtidSet;
 use journal::Entry;
 use journal_words::{gtid_word, set_word};
-use rows::{Change, Changes, Name, Transaction, Value};
+use log_transactions::{LogTransactions, Varied, table_name};
+use rows::{Name, Value};
 use std::alloc::{AllocError, Global};
 use std::mem;
-
-/// How much of a transaction has come.
-#[derive(Clone, Copy, Debug, PartialEq, Eq)]
-pub enum LogStage {
-    /// None is open.
-    Idle,
-    /// Its GTID has come.
-    Named,
-    /// It has begun.
-    Begun,
-}
-
-/// The file whose previous set is read.
-#[derive(Clone, Copy, Debug, PartialEq, Eq)]
-pub enum File {
-    /// No previous set has come.
-    Unread,
-    First,
-    /// One after a file whose set or GTIDs have come.
-    Later,
-}
 
 /// How much of a row has come.
 #[derive(Clone, Copy, Debug, PartialEq, Eq)]
@@ -75,22 +48,8 @@ pub struct Log {
 #[derive(Drop)]
 pub struct LogDraft {
     body: Body,
-    stage: LogStage,
-    /// Of the transaction that is open, or was the last one.
-    gtid: Gtid,
-    /// No GTID has come.
-    is_fresh: bool,
-    /// The set that was executed before, by the files.
-    previous: GtidSet,
-    file: File,
-    /// The opening set, the previous set of the first file, and the GTIDs that came.
-    come: GtidSet,
     /// Rows of the statement have come: the next table is another statement's.
     is_over: bool,
-    /// Rows events of the statement have come, and none of them has ended it.
-    is_open: bool,
-    /// The one database of the log, once it is named.
-    database: Option<Vec<u8>>,
     /// The table whose columns come.
     mapping: Option<Mapped>,
     /// Those that the statement has mapped before.
@@ -101,70 +60,23 @@ pub struct LogDraft {
     part: RowPart,
     before: Vec<Value>,
     after: Vec<Value>,
-    /// Of the transaction that is open.
-    changes: Vec<Change>,
-    /// Those of the transactions before it.
-    entries: Vec<Entry>,
-    /// Columns whose values the server compares otherwise than their bytes.
-    varied: VariedColumns,
-    ghost numbers: { HaveNumbers previous },
-    ghost number: { is_number gtid.number ≡ true },
-    ghost numbered: { are_numbered entries.items ≡ true },
-}
-
-impl File {
-    ghost use Rattle.binlog_entries.specs.Files.{next_file};
-
-    /// The file whose previous set comes next.
-    fn next(self) -> File
-        ensures { result ≡ next_file self }
-    {
-        match self {
-            File::Unread => File::First,
-            File::First | File::Later => File::Later,
-        }
-    }
-}
-
-/// Whether a previous set of a later file lies within what came before it.
-fn has_come(alloc: Global, file: File, come: &GtidSet, gtids: &GtidSet) -> Result<bool, AllocError>
-    ensures { IfOk result (λ has. has ≡ has_come file come.now gtids.now) }
-{
-    if file != File::Later {
-        return Ok(true);
-    }
-    has_all(alloc, come, gtids)
+    /// What the lines told so far.
+    log: LogTransactions,
 }
 
 impl LogDraft {
-    ghost use Rattle.std.specs.Prelude.{[], None, Ok, Err, OnOk, IfErr, true, false, if◌then◌else◌};
-    ghost use Rattle.std.specs.FinSet as set;
-    ghost use Rattle.gtid_set.specs.Full.{IsFaultOf};
-    ghost use Rattle.binlog_entries.specs.Files.{is_later, come_behind};
+    ghost use Rattle.std.specs.Prelude.{[], None, Ok, Err, OnOk};
     ghost use Rattle.binlog_text.specs.Contents.{content_of, column_content};
-    ghost use Rattle.binlog_entries.specs.Machine.{Takes, TakesOr, TakesOrMemory, IsGtidFault, IsSourcesFault, IsMarkFault, IsContentFault, IsStepFault, IsLineFault, Standing, finish_row, open_row, known_name, begin_row, row_line, where_line, set_line, next_value, value_in, value_line, place_line, map_table, table_line, add_column, note_varied, column_line, with_entry, commit_line, flush_line, begin_line, gtid_line, previous_behind, sources_line, head_line, mark_line, take_content, step, judge, start, same_stage, is_closed};
-    ghost use Rattle.binlog_entries.specs.declared.fault.EntryRefusal.TheVariants as refusals;
+    ghost use Rattle.binlog_entries.specs.Machine.{Takes, TakesOr, TakesOrMemory, IsGtidFault, IsSourcesFault, IsMarkFault, IsContentFault, IsStepFault, IsLineFault, finish_row, begin_row, row_line, where_line, set_line, next_value, value_line, place_line, table_line, add_column, note_varied, column_line, gtid_line, sources_line, head_line, mark_line, take_content, step, judge, start, is_closed};
     ghost use Rattle.binlog_entries.specs.Drafts.{standing};
 
     /// Before the first line. What comes before the log is in the opening set.
-    #[tactic(auto, using(journal::proofs::EntryLemmas::no_numbers), unfolding(gtid_set::specs::Sets::greatest))]
     pub fn start(alloc: Global, opening: GtidSet) -> LogDraft
         ensures { standing result ≡ start opening }
     {
         LogDraft {
             body: Body::Preamble,
-            stage: LogStage::Idle,
-            gtid: Gtid {
-                source: SourceId::from_bits(0),
-                number: 1,
-            },
-            is_fresh: true,
-            previous: GtidSet::empty(alloc),
-            file: File::Unread,
-            come: opening,
             is_over: false,
-            is_open: false,
-            database: None,
             mapping: None,
             tables: Tables::new(alloc),
             row: None,
@@ -172,13 +84,11 @@ impl LogDraft {
             part: RowPart::Head,
             before: Vec::new(alloc),
             after: Vec::new(alloc),
-            changes: Vec::new(alloc),
-            entries: Vec::new(alloc),
-            varied: VariedColumns::new(alloc),
+            log: LogTransactions::start(alloc, opening),
         }
     }
 
-    /// Adds the row that is open to the changes, if it is whole.
+    /// Tells the row that is open, if it is whole.
     #[tactic(auto, unfolding(crate::specs::Machine::finish_row))]
     fn finish(&mut self, alloc: Global) -> Result<(), EntryFault>
         ensures { TakesOrMemory result (finish_row (standing self.old)) (standing self.new) }
@@ -201,7 +111,7 @@ impl LogDraft {
         let before = mem::replace(&mut self.before, Vec::new(alloc));
         let after = mem::replace(&mut self.after, Vec::new(alloc));
         let change = change_of(self.operation, table, before, after)?;
-        self.changes.push(change)?;
+        self.log.take_row(change)?;
         Ok(())
     }
 
@@ -267,57 +177,11 @@ impl LogDraft {
         ensures { TakesOrMemory result (place_line (standing self.old)) (standing self.new) }
     {
         self.finish(alloc)?;
-        if let Some(table) = self.mapping.take() {
-            self.tables.push(table)?;
-        }
-        Ok(())
-    }
-
-    /// The transaction that is open ends, and these are its changes.
-    fn end_entry(&mut self, changes: Changes) -> Result<(), AllocError>
-        ensures { OnOk result (standing self.new ≡ with_entry (standing self.old) changes) }
-    {
-        let entry = Entry {
-            gtid: self.gtid,
-            txn: Transaction { changes },
+        let Some(table) = self.mapping.take() else {
+            return Ok(());
         };
-        self.entries.push(entry)?;
-        self.stage = LogStage::Idle;
-        Ok(())
-    }
-
-    #[tactic(auto, unfolding(crate::specs::Machine::commit_line))]
-    fn commit_line(&mut self, alloc: Global) -> Result<(), EntryFault>
-        ensures { TakesOrMemory result (commit_line (standing self.old)) (standing self.new) }
-    {
-        if self.is_open || self.stage != LogStage::Begun {
-            return Err(EntryFault::Refused(EntryRefusal::Transaction));
-        }
-        let changes = mem::replace(&mut self.changes, Vec::new(alloc));
-        self.end_entry(Changes::new(changes)?)?;
-        Ok(())
-    }
-
-    /// A statement that flushes is a transaction without changes.
-    #[tactic(auto, unfolding(crate::specs::Machine::flush_line))]
-    fn flush_line(&mut self, alloc: Global) -> Result<(), EntryFault>
-        ensures { TakesOrMemory result (flush_line (standing self.old)) (standing self.new) }
-    {
-        if self.stage != LogStage::Named {
-            return Err(EntryFault::Refused(EntryRefusal::Transaction));
-        }
-        self.end_entry(Changes::new(Vec::new(alloc))?)?;
-        Ok(())
-    }
-
-    #[tactic(auto, unfolding(crate::specs::Machine::begin_line))]
-    fn begin_line(&mut self) -> Result<(), EntryFault>
-        ensures { Takes result (begin_line (standing self.old)) (standing self.new) }
-    {
-        if self.stage != LogStage::Named {
-            return Err(EntryFault::Refused(EntryRefusal::Transaction));
-        }
-        self.stage = LogStage::Begun;
+        self.log.take_columns(table.len())?;
+        self.tables.push(table)?;
         Ok(())
     }
 
@@ -325,26 +189,10 @@ impl LogDraft {
     fn gtid_line(&mut self, alloc: Global, word: &[u8]) -> Result<(), EntryFault>
         ensures { TakesOr (IsGtidFault (standing self.old) word.now) result (gtid_line (standing self.old) word.now) (standing self.new) }
     {
-        if self.stage != LogStage::Idle {
-            return Err(EntryFault::Refused(EntryRefusal::Gtid));
-        }
         let Some(gtid) = gtid_word(alloc, word)? else {
             return Err(EntryFault::Refused(EntryRefusal::Gtid));
         };
-        self.add_come(&gtid)?;
-        self.gtid = gtid;
-        self.is_fresh = false;
-        self.file = File::Later;
-        self.stage = LogStage::Named;
-        Ok(())
-    }
-
-    /// What came, with one more GTID.
-    fn add_come(&mut self, gtid: &Gtid) -> Result<(), SetFault>
-        ensures come { OnOk result (standing self.new ≡ record (standing self.old) { come = set.insert self.old.come gtid.now }) }
-        ensures fault { IfErr result (λ fault. IsFaultOf fault (set.insert self.old.come gtid.now)) }
-    {
-        self.come.add(*gtid)?;
+        self.log.name(&gtid)?;
         Ok(())
     }
 
@@ -355,38 +203,8 @@ impl LogDraft {
         let Some(gtids) = set_word(alloc, word)? else {
             return Err(EntryFault::Refused(EntryRefusal::Gtid));
         };
-        let has = has_come(alloc, self.file, &self.come, &gtids)?;
-        if !has {
-            return Err(EntryFault::Refused(EntryRefusal::Gap));
-        }
-        self.join_come(alloc, &gtids)?;
-        self.join_previous(alloc, &gtids)?;
+        self.log.precede(alloc, &gtids)?;
         Ok(())
-    }
-
-    /// What came, with a line of the previous set of the first file.
-    fn join_come(&mut self, alloc: Global, gtids: &GtidSet) -> Result<(), SetFault>
-        ensures come { OnOk result (standing self.new ≡ record (standing self.old) { come = come_behind self.old.file self.old.come gtids.now }) }
-        ensures fault { IfErr result (λ fault. (is_later self.old.file ≡ false) × IsFaultOf fault (set.union self.old.come gtids.now)) }
-        ensures fresh { self.new.is_fresh ≡ self.old.is_fresh }
-        ensures previous { self.new.previous ≡ self.old.previous }
-    {
-        if self.file == File::Later {
-            return Ok(());
-        }
-        join(alloc, &mut self.come, gtids)
-    }
-
-    /// The set that was executed before, with a line of a previous set.
-    fn join_previous(&mut self, alloc: Global, gtids: &GtidSet) -> Result<(), SetFault>
-        requires { HaveNumbers gtids.now }
-        ensures previous { OnOk result (standing self.new ≡ record (standing self.old) { previous = previous_behind self.old.is_fresh self.old.previous gtids.now }) }
-        ensures fault { IfErr result (λ fault. (self.old.is_fresh ≡ true) × IsFaultOf fault (set.union self.old.previous gtids.now)) }
-    {
-        if !self.is_fresh {
-            return Ok(());
-        }
-        join(alloc, &mut self.previous, gtids)
     }
 
     #[tactic(auto, unfolding(crate::specs::Machine::head_line))]
@@ -395,15 +213,12 @@ impl LogDraft {
     {
         match event {
             LogEvent::Rows(_, ends) => {
-                if self.stage != LogStage::Begun {
-                    return Err(EntryFault::Refused(EntryRefusal::Transaction));
-                }
+                self.log.take_rows(ends)?;
                 self.is_over = true;
-                self.is_open = !ends;
                 Ok(())
             }
             LogEvent::PreviousGtids => {
-                self.file = self.file.next();
+                self.log.open_file();
                 Ok(())
             }
             LogEvent::Start
@@ -416,19 +231,6 @@ impl LogDraft {
         }
     }
 
-    /// The name of a table that the statement maps.
-    fn known_name(&self, alloc: Global, table: &[u8]) -> Result<Option<Name>, AllocError>
-        ensures { IfOk result (λ found. found ≡ known_name table.now (standing self.now).tables) }
-    {
-        let Some(name) = name_of(alloc, table)? else {
-            return Ok(None);
-        };
-        if self.tables.find(&name).is_none() {
-            return Ok(None);
-        }
-        Ok(Some(name))
-    }
-
     fn begin_row(
         &mut self,
         alloc: Global,
@@ -438,12 +240,12 @@ impl LogDraft {
     ) -> Result<(), EntryFault>
         ensures { TakesOrMemory result (begin_row (standing self.old) operation database.now table.now) (standing self.new) }
     {
-        if !is_database(database, &self.database) {
-            return Err(EntryFault::Refused(EntryRefusal::Table));
-        }
-        let Some(name) = self.known_name(alloc, table)? else {
+        let Some(name) = table_name(alloc, table)? else {
             return Err(EntryFault::Refused(EntryRefusal::Table));
         };
+        if !self.log.has_table(database, &name) {
+            return Err(EntryFault::Refused(EntryRefusal::Table));
+        }
         self.row = Some(name);
         self.operation = operation;
         self.part = RowPart::Head;
@@ -464,40 +266,21 @@ impl LogDraft {
         self.begin_row(alloc, operation, database, table)
     }
 
-    fn map_table(
-        &mut self,
-        alloc: Global,
-        database: &[u8],
-        table: Option<Name>,
-    ) -> Result<(), EntryFault>
-        ensures { TakesOrMemory result (map_table (standing self.old) database.now table) (standing self.new) }
+    #[tactic(auto, unfolding(crate::specs::Machine::table_line))]
+    fn table_line(&mut self, alloc: Global, database: &[u8], table: &[u8]) -> Result<(), EntryFault>
+        ensures { TakesOrMemory result (table_line (standing self.old) database.now table.now) (standing self.new) }
     {
-        let Some(name) = table else {
+        self.log.map_table(alloc, database, table)?;
+        let Some(name) = self.log.mapped() else {
             return Err(EntryFault::Refused(EntryRefusal::Table));
         };
-        let mut copy = Vec::new(alloc);
-        copy.extend_from_slice(database)?;
-        self.database = Some(copy);
+        let name = name.clone()?;
         self.mapping = Some(Mapped::new(alloc, name));
         if self.is_over {
             self.tables = Tables::new(alloc);
         }
         self.is_over = false;
         Ok(())
-    }
-
-    #[tactic(auto, unfolding(crate::specs::Machine::table_line))]
-    fn table_line(&mut self, alloc: Global, database: &[u8], table: &[u8]) -> Result<(), EntryFault>
-        ensures { TakesOrMemory result (table_line (standing self.old) database.now table.now) (standing self.new) }
-    {
-        if self.stage != LogStage::Begun {
-            return Err(EntryFault::Refused(EntryRefusal::Transaction));
-        }
-        if !may_be_database(database, &self.database) {
-            return Err(EntryFault::Refused(EntryRefusal::Table));
-        }
-        let name = name_of(alloc, table)?;
-        self.map_table(alloc, database, name)
     }
 
     fn add_column(&mut self, is_first: bool, column: ColumnType) -> Result<(), EntryFault>
@@ -515,7 +298,7 @@ impl LogDraft {
         }
     }
 
-    /// Records the next column of the mapped table, unless the server compares its values by their bytes.
+    /// Tells the next column of the mapped table, unless the server compares its values by their bytes.
     fn note(&mut self, text: &[u8]) -> Result<(), AllocError>
         ensures { OnOk result (standing self.new ≡ note_varied (standing self.old) text.now) }
     {
@@ -526,7 +309,7 @@ impl LogDraft {
             return Ok(());
         }
         let name = table.name().clone()?;
-        self.varied.add(name, table.len())
+        self.log.vary(name, table.len())
     }
 
     #[tactic(auto, unfolding(crate::specs::Machine::column_line))]
@@ -540,17 +323,6 @@ impl LogDraft {
         self.add_column(column.is_first, named)
     }
 
-    /// Whether the stage is this one.
-    fn expect_stage(&self, stage: LogStage) -> Result<(), EntryFault>
-        ensures { Takes result (if same_stage (standing self.now).stage stage then Ok (standing self.now) else Err refusals.Transaction) (standing self.now) }
-    {
-        if self.stage == stage {
-            Ok(())
-        } else {
-            Err(EntryFault::Refused(EntryRefusal::Transaction))
-        }
-    }
-
     fn mark_line(&mut self, alloc: Global, mark: Mark) -> Result<(), EntryFault>
         ensures { TakesOr (IsMarkFault mark) result (mark_line (standing self.old) mark) (standing self.new) }
     {
@@ -558,11 +330,11 @@ impl LogDraft {
             Mark::Place | Mark::Automatic => self.place_line(alloc),
             Mark::Where => self.where_line(),
             Mark::Set => self.set_line(),
-            Mark::Begin => self.begin_line(),
-            Mark::Commit | Mark::Committed => self.commit_line(alloc),
-            Mark::Flush => self.flush_line(alloc),
-            Mark::Savepoint => self.expect_stage(LogStage::Begun),
-            Mark::Closed => self.expect_stage(LogStage::Idle),
+            Mark::Begin => Ok(self.log.begin()?),
+            Mark::Commit | Mark::Committed => Ok(self.log.commit(alloc)?),
+            Mark::Flush => Ok(self.log.flush(alloc)?),
+            Mark::Savepoint => Ok(self.log.take_savepoint()?),
+            Mark::Closed => Ok(self.log.end_file()?),
             Mark::Ended | Mark::Empty | Mark::Comment | Mark::Setting | Mark::Frame | Mark::Extra =>
                 Ok(()),
         }
@@ -618,14 +390,15 @@ impl LogDraft {
 
     /// The set that was executed before, by the files, and the entries in order.
     pub fn into_log(self) -> Log
-        ensures previous { result.previous ≡ (standing self).previous }
-        ensures entries { result.entries.items ≡ (standing self).entries }
-        ensures varied { result.varied.items ≡ (standing self).varied }
+        ensures previous { result.previous ≡ (standing self).log.previous }
+        ensures entries { result.entries.items ≡ (standing self).log.entries }
+        ensures varied { result.varied.items ≡ (standing self).log.varied }
     {
+        let log = self.log.into_log();
         Log {
-            previous: self.previous,
-            entries: self.entries,
-            varied: self.varied.into_list(),
+            previous: log.previous,
+            entries: log.entries,
+            varied: log.varied,
         }
     }
 }

@@ -4,6 +4,7 @@ ghost use Rattle.gtid_set.specs.declared.fault.SetFault.TheVariants.{Memory};
 ghost use Rattle.binlog_entries.specs.declared.fault.EntryFault.TheVariants.{Set};
 
 use gtid_set::SetFault;
+use log_transactions::{EventFault, EventRefusal};
 use std::alloc::{AllocError, AllocFailed};
 use thiserror::Error;
 
@@ -37,8 +38,22 @@ pub enum EntryRefusal {
 }
 
 impl EntryRefusal {
+    ghost use Rattle.binlog_entries.specs.Refusals.{refusal_of_event};
     ghost use Rattle.binlog_entries.specs.Unread.{word_of};
     ghost use Rattle.binlog_entries.specs.Stream.{named_line};
+
+    /// That of a line whose event is refused.
+    fn of_event(refusal: EventRefusal) -> EntryRefusal
+        ensures { result ≡ refusal_of_event refusal }
+    {
+        match refusal {
+            EventRefusal::Gtid => EntryRefusal::Gtid,
+            EventRefusal::Transaction => EntryRefusal::Transaction,
+            EventRefusal::Table => EntryRefusal::Table,
+            EventRefusal::Columns => EntryRefusal::Columns,
+            EventRefusal::Gap => EntryRefusal::Gap,
+        }
+    }
 
     /// The word that names it.
     pub fn word(self) -> &'static str
@@ -101,6 +116,19 @@ impl<T: Drop> From<AllocFailed<T>> for EntryFault {
 
     fn from(_e: AllocFailed<T>) -> EntryFault {
         EntryFault::Set(SetFault::Memory)
+    }
+}
+
+impl From<EventFault> for EntryFault {
+    ghost use Rattle.binlog_entries.specs.Refusals.{fault_of_event};
+
+    ghost from_gives = { λ fault e. e ≡ fault_of_event fault };
+
+    fn from(fault: EventFault) -> EntryFault {
+        match fault {
+            EventFault::Set(fault) => EntryFault::Set(fault),
+            EventFault::Refused(refusal) => EntryFault::Refused(EntryRefusal::of_event(refusal)),
+        }
     }
 }
 

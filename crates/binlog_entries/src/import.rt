@@ -1,5 +1,8 @@
 //! The text of a log as that of a journal.
 ghost use Rattle.std.specs.Prelude.{◌≡◌, IfOk, IfErr, OnOk, IfSome, IfNone};
+ghost use Rattle.txn_journal.specs.Spelling.{spelling_as};
+ghost use Rattle.txn_journal.specs.Stamps.{right_stamps};
+ghost use Rattle.txn_journal.specs.declared.lines.Version.TheVariants.{Three};
 ghost use Rattle.binlog_entries.specs.Keys.{varied_places};
 ghost use Rattle.binlog_entries.specs.Imports.{Imports, IsNoImport, AreKeysTaken, IsKeyFault};
 
@@ -7,13 +10,17 @@ use crate::as_journal::LogFault;
 use crate::fault::ReadFault;
 use crate::keys::{varied_key, varied_places};
 use crate::reader::read_log;
-use crate::varied::{Varied, VariedColumns};
 use gtid_set::{GtidSet, SetFault};
+use journal::Journal;
+use log_transactions::{Varied, VariedColumns};
 use rows::{Name, Schema, Table};
-use std::alloc::Global;
+use std::alloc::{AllocError, Global};
 use std::fmt;
 use thiserror::Error;
 use txn_journal::encode_v2;
+
+/// Where the first line of a journal, `journal 2`, has its version.
+const VERSION_PLACE: usize = 8;
 
 /// Why a log's text is not imported.
 #[derive(Drop, Error)]
@@ -38,7 +45,7 @@ impl fmt::Debug for ImportFault {
 /// The journal that the text of a binary log describes.
 #[derive(Drop)]
 pub struct ImportedJournal {
-    /// Its text, by version 2 of the format.
+    /// Its text, by version 3 of the format.
     pub text: Vec<u8>,
     /// The places, ascending from 0, of the tables of the schema with a key that the server compares otherwise than by its bytes.
     pub varied: Vec<usize>,
@@ -84,6 +91,16 @@ fn places_of(
     }
 }
 
+/// The text of a journal by version 3 of the format, whose entries change tables of this schema. It is that of version 2 but for the number of the
+/// version in the first line.
+fn journal_text(alloc: Global, schema: &Schema, journal: &Journal) -> Result<Vec<u8>, AllocError>
+    ensures { IfOk result (λ text. text.items ≡ spelling_as Three (right_stamps Three schema.now journal.now.entries) journal.now) }
+{
+    let mut text = encode_v2(alloc, schema, journal)?;
+    text[VERSION_PLACE] = b'3';
+    Ok(text)
+}
+
 /// The journal that the text of a binary log describes; its entries change tables of this schema, and what comes before the log is in the
 /// opening set. `bytes` takes keys that the server compares otherwise than their bytes.
 pub fn import_journal(
@@ -110,7 +127,7 @@ pub fn import_journal(
         Ok(journal) => journal,
         Err(fault) => return Err(ImportFault::Log(fault)),
     };
-    match encode_v2(alloc, schema, &journal) {
+    match journal_text(alloc, schema, &journal) {
         Ok(text) => Ok(ImportedJournal { text, varied }),
         Err(_) => Err(ImportFault::Log(LogFault::Set(SetFault::Memory))),
     }

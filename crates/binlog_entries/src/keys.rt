@@ -2,7 +2,7 @@
 ghost use Rattle.std.specs.Prelude.{◌≡◌, IfOk};
 ghost use Rattle.binlog_entries.specs.Keys.{varied_column, varied_in_lists, key_column, varied_key, varied_places};
 
-use crate::varied::VariedColumns;
+use log_transactions::VariedColumns;
 use rows::{Columns, Name, Table};
 use std::alloc::{AllocError, Global};
 

@@ -1,13 +1,15 @@
-//! The text of MySQL's binary logs as entries: a state machine over the lines of `binlog_text`.
+//! The text of MySQL's binary logs as entries: the lines of `binlog_text`, which tell the events of `log_transactions`.
 //!
 //! `LogReader` takes the text in pieces (`start`, `feed`, `finish`), and `read_log` is one `feed` and `finish`. Each is given the opening set:
 //! what comes before the log. A `Log` is the set that was executed before, by the first file, and the entries in order. `import_journal`
-//! writes it as a journal's text, by version 2 of the format.
+//! writes it as a journal's text, by version 3 of the format.
 //!
-//! What a contract sees: `takes` defines which kinds of lines are allowed in the body of which event, `take_content` what each adds, and
-//! `IsLog` that what the lines mean is what the entries denote: GTIDs, rows with their operation, table and images, and commits. Nothing is
-//! dropped, doubled or moved (`lines_mean_entries`), and it makes no difference where a text is cut (`cut_anywhere`). A refusal names the
-//! first line that is refused, but for rows that lack: it names the line before, which is the head of their event.
+//! What a contract sees: `takes` defines which kinds of lines are allowed in the body of which event, `events_of` which events of
+//! `log_transactions` a line tells, and `take_content` what it adds besides: the types of columns, and the row that is open. `IsLog` says
+//! that the lines are taken where they stand, that what they tell is the events of a log with these entries (`AreOfLog`), and that what they
+//! mean is what the entries denote: GTIDs, rows with their operation, table and images, and commits. Nothing is dropped, doubled or moved
+//! (`lines_mean_entries`), and it makes no difference where a text is cut (`cut_anywhere`). A refusal names the first line that is refused,
+//! but for rows that lack: it names the line before, which is the head of their event.
 //!
 //! Two faults of a text that looks whole are refused. `HaveRows`: mysqlbinlog prints the rows of a statement after the head of the rows
 //! event that ends it, whatever tables and operations they are of, and without `-v` it prints none. So that head has a row after it, and no
@@ -29,7 +31,6 @@ mod bodies;
 mod draft;
 mod fault;
 mod import;
-mod joined;
 mod keys;
 mod laws;
 mod limits;
@@ -37,7 +38,6 @@ mod parts;
 mod reader;
 mod tables;
 mod unread;
-mod varied;
 
 pub use as_journal::LogFault;
 pub use draft::{Log, LogDraft};
@@ -45,5 +45,5 @@ pub use fault::{EntryFault, EntryRefusal, ReadFault};
 pub use import::{ImportFault, ImportedJournal, import_journal};
 pub use laws::{cut_anywhere, lines_mean_entries, statements_hold_no_rows};
 pub use limits::Limit;
+pub use log_transactions::Varied;
 pub use reader::{LogReader, cut_line, read_log};
-pub use varied::Varied;

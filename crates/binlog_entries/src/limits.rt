@@ -1,36 +1,36 @@
-//! Which limit of a journal's format an entry passes.
+//! Which limit of a journal, by version 3 of its format, an entry passes.
 ghost use Rattle.std.specs.Prelude.{◌≡◌, ◌≤◌, length, IfOk};
 ghost use Rattle.journal.specs.Writing.{is_value_writable};
 ghost use Rattle.binlog_entries.specs.Limits.{first_long, image_limit, change_limit, changes_limit, limit_of};
-ghost use Rattle.rows.specs.declared.limits.Limits.TheVariants.{Narrow};
+ghost use Rattle.rows.specs.declared.limits.Limits.TheVariants.{Wide};
 
 use journal::Entry;
 use rows::{Change, Limits, Name, Row, Value};
 use std::alloc::{AllocError, Global};
 
-/// What of an entry passes a limit of a journal's format.
+/// What of an entry passes a limit of a journal, by version 3 of its format.
 #[derive(Drop)]
 pub enum Limit {
-    /// It has more than 65,536 changes.
+    /// It has more than 4,294,967,294 changes.
     Changes,
-    /// An image of this table has more than 64 columns, or none.
+    /// An image of this table has more than 4,096 columns, or none.
     Columns(Name),
-    /// A value of this column, counted from 0, of this table has more than 65,535 bytes.
+    /// A value of this column, counted from 0, of this table has more than 4,294,967,295 bytes.
     Bytes(Name, usize),
 }
 
 fn is_value_writable(value: &Value) -> bool
-    ensures { result ≡ is_value_writable Narrow value.now }
+    ensures { result ≡ is_value_writable Wide value.now }
 {
     match value {
         Value::Null | Value::Int(_) => true,
-        Value::Bytes(bytes) => bytes.as_slice().len() <= 65_535,
+        Value::Bytes(bytes) => bytes.as_slice().len() <= 4_294_967_295,
     }
 }
 
 /// The column of the first value that has too many bytes.
 fn first_long(alloc: Global, image: &Row) -> Result<Option<usize>, AllocError>
-    requires { length image.now ≤ 64 }
+    requires { length image.now ≤ 4096 }
     ensures { IfOk result (λ column. column ≡ first_long 0 image.now) }
 {
     for column in 0..image.len() {
@@ -45,11 +45,11 @@ fn first_long(alloc: Global, image: &Row) -> Result<Option<usize>, AllocError>
 fn image_limit(alloc: Global, table: &Name, image: &Row) -> Result<Option<Limit>, AllocError>
     ensures { IfOk result (λ limit. limit ≡ image_limit table.now image.now) }
 {
-    if image.len() < 1 || image.len() > 64 {
+    if image.len() < 1 || image.len() > 4_096 {
         let table = table.clone()?;
         return Ok(Some(Limit::Columns(table)));
     }
-    if !image.has_longer_value(Limits::Narrow.bytes()) {
+    if !image.has_longer_value(Limits::Wide.bytes()) {
         return Ok(None);
     }
     let Some(column) = first_long(alloc, image)? else {
@@ -94,7 +94,7 @@ pub fn limit_of(alloc: Global, entry: &Entry) -> Result<Option<Limit>, AllocErro
     ensures { IfOk result (λ limit. limit ≡ limit_of entry.now) }
 {
     let changes = entry.txn.changes.as_slice();
-    if changes.len() > 65_536 {
+    if changes.len() > 4_294_967_294 {
         return Ok(Some(Limit::Changes));
     }
     changes_limit(alloc, changes)

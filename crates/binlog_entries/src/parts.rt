@@ -1,6 +1,6 @@
 //! Parts of rows.
-ghost use Rattle.std.specs.Prelude.{◌≡◌, length, IfOk, option_map};
-ghost use Rattle.binlog_entries.specs.Machine.{Finds, is_whole, change_of, is_database, may_be_database, before_due, after_due, parse_value};
+ghost use Rattle.std.specs.Prelude.{◌≡◌, length, IfOk};
+ghost use Rattle.binlog_entries.specs.Machine.{Finds, is_whole, change_of, before_due, after_due, parse_value};
 ghost use Rattle.binlog_entries.specs.Tables.{type_at};
 
 use crate::draft::RowPart;
@@ -53,24 +53,6 @@ pub fn change_of(
                 after,
             })
         }
-    }
-}
-
-pub fn is_database(name: &[u8], database: &Option<Vec<u8>>) -> bool
-    ensures { result ≡ is_database name.now (option_map (λ v. v.items) database.now) }
-{
-    match database {
-        Some(database) => database.as_slice() == name,
-        None => false,
-    }
-}
-
-pub fn may_be_database(name: &[u8], database: &Option<Vec<u8>>) -> bool
-    ensures { result ≡ may_be_database name.now (option_map (λ v. v.items) database.now) }
-{
-    match database {
-        Some(database) => database.as_slice() == name,
-        None => true,
     }
 }
 

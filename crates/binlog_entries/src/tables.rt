@@ -1,12 +1,10 @@
 //! Tables that a statement maps.
-ghost use Rattle.std.specs.Prelude.{◌≡◌, ◌∷◌, ◌++◌, [], IfOk, OnOk, OnErr, option_map, slice_get, length};
-ghost use Rattle.rows.specs.declared.limits.Limits.TheVariants.{Narrow};
-ghost use Rattle.txn_journal.specs.Words.{name_of};
+ghost use Rattle.std.specs.Prelude.{◌≡◌, ◌∷◌, ◌++◌, [], OnOk, OnErr, option_map, slice_get, length};
 ghost use Rattle.binlog_entries.specs.Tables.{find_table};
 ghost use Rattle.binlog_entries.specs.Places.{ArePlaces};
 
 use binlog_text::ColumnType;
-use rows::{Name, NameFault};
+use rows::Name;
 use std::alloc::{AllocError, Global};
 use std::collections::BTreeMap;
 use std::marker::Model;
@@ -145,19 +143,5 @@ impl Tables {
             Some(place) => self.list.get(*place),
             None => None,
         }
-    }
-}
-
-/// The name that a word is.
-pub fn name_of(alloc: Global, word: &[u8]) -> Result<Option<Name>, AllocError>
-    ensures { IfOk result (λ found. found ≡ name_of Narrow word.now) }
-{
-    let Ok(text) = std::str::from_utf8(word) else {
-        return Ok(None);
-    };
-    match Name::short(String::from_str(alloc, text)?) {
-        Ok(name) => Ok(Some(name)),
-        Err(NameFault::NotAName) => Ok(None),
-        Err(NameFault::Memory) => Err(AllocError),
     }
 }

@@ -2,7 +2,7 @@
 use Rattle.std.specs.Prelude.{ℕ, ◌+◌, ◌-◌, ◌==◌, ◌&&◌, nat_lt, List, length, drop, slice_index, Option, Some, None, if◌then◌else◌}
 use Rattle.binlog_frames.specs.Reading.{short_at}
 use Rattle.binlog_events.specs.Numbers.{part, low_number}
-use Rattle.binlog_events.specs.declared.bodies.MappedTable.{MappedTable}
+use Rattle.binlog_events.specs.declared.bodies.NamedTable.{NamedTable}
 
 -- what is behind so many bytes
 unfoldable pub behind : ℕ → List ℕ → Option (List ℕ)
@@ -46,7 +46,7 @@ unfoldable pub mapped : List ℕ → Option Mapped
 mapped body = if nat_lt (length body) 9 then None else mapped_database (slice_index body 8) body
 
 -- what the code gives
-abbrev pub mapped_table : MappedTable → Mapped
+abbrev pub mapped_table : NamedTable → Mapped
 mapped_table t = record { id = t.id; database = t.database.now; table = t.table.now }
 
 -- a rows event begins with the id of its table, of 6 bytes, and 2 bytes of flags

@@ -6,5 +6,6 @@ pub mod Gtids
 pub mod Previous
 pub mod Names
 pub mod Lines
+pub mod RowLines
 pub mod Listing
 pub mod Laws

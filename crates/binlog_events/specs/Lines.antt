@@ -12,7 +12,7 @@ use Rattle.binlog_events.specs.Gtids.{gtid_of, Tagged, tagged_of}
 use Rattle.binlog_rows.specs.declared.columns.MappedColumn.{MappedColumn}
 use Rattle.binlog_rows.specs.Rows.{row_count}
 use Rattle.binlog_events.specs.Previous.{previous_text, previous_said}
-use Rattle.binlog_events.specs.Names.{Described, Names, names_after}
+use Rattle.binlog_events.specs.Names.{Described, Names}
 
 -- FORMAT_DESCRIPTION: the server's version, and what checksums the events behind it have
 abbrev pub checksums_text : ℕ → List ℕ
@@ -85,13 +85,3 @@ head_text offset kind len = decimal offset ++ 32 ∷ (kind_text kind ++ 32 ∷ d
 
 abbrev pub event_line : Names → Placed → List ℕ
 event_line names p = head_text p.offset p.event.kind p.len ++ (said names p.event.kind p.event.body ++ 10 ∷ [])
-
--- the lines of events, where these tables are mapped before them
-unfoldable pub lines_from : Names → List Placed → List ℕ
-lines_from names [] = []
-lines_from names (p ∷ ps) = event_line names p ++ lines_from (names_after p.event.kind p.event.body names) ps
-
--- the tables that are mapped behind events
-unfoldable pub names_from : Names → List Placed → Names
-names_from names [] = names
-names_from names (p ∷ ps) = names_from (names_after p.event.kind p.event.body names) ps

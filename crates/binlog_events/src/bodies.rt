@@ -31,9 +31,9 @@ fn behind_zero(n: usize, body: &[u8]) -> Option<&[u8]>
     }
 }
 
-/// The statement of a QUERY.
+/// The statement of a QUERY, by the body. `None` where the body is not in that form.
 #[tactic(auto, unfolding(crate::specs::Bodies::query_text))]
-pub(crate) fn query_text(body: &[u8]) -> Option<&[u8]>
+pub fn query_text(body: &[u8]) -> Option<&[u8]>
     ensures { option_map (λ t. t.now) result ≡ query_text body.now }
 {
     if body.len() < 13 {
@@ -45,15 +45,16 @@ pub(crate) fn query_text(body: &[u8]) -> Option<&[u8]>
 
 /// A table of a TABLE_MAP.
 #[derive(Drop)]
-pub(crate) struct MappedTable<'a> {
-    pub(crate) id: u64,
-    pub(crate) database: &'a [u8],
-    pub(crate) table: &'a [u8],
+pub struct NamedTable<'a> {
+    /// By which rows events name it.
+    pub id: u64,
+    pub database: &'a [u8],
+    pub table: &'a [u8],
 }
 
 /// The table of a TABLE_MAP whose names have these lengths.
 #[tactic(auto, unfolding(crate::specs::Bodies::mapped_names))]
-fn mapped_names(database: usize, table: usize, body: &[u8]) -> Option<MappedTable<'_>>
+fn mapped_names(database: usize, table: usize, body: &[u8]) -> Option<NamedTable<'_>>
     requires database { database ≤ 255 }
     requires table { table ≤ 255 }
     ensures { option_map mapped_table result ≡ mapped_names database table body.now }
@@ -62,7 +63,7 @@ fn mapped_names(database: usize, table: usize, body: &[u8]) -> Option<MappedTabl
         return None;
     }
     if body[9 + database] == 0 && body[11 + (database + table)] == 0 {
-        Some(MappedTable {
+        Some(NamedTable {
             id: low_number(part(0, 6, body)),
             database: part(9, database, body),
             table: part(11 + database, table, body),
@@ -74,7 +75,7 @@ fn mapped_names(database: usize, table: usize, body: &[u8]) -> Option<MappedTabl
 
 /// The table of a TABLE_MAP whose first name has this length.
 #[tactic(auto, unfolding(crate::specs::Bodies::mapped_database))]
-fn mapped_database(database: usize, body: &[u8]) -> Option<MappedTable<'_>>
+fn mapped_database(database: usize, body: &[u8]) -> Option<NamedTable<'_>>
     requires { database ≤ 255 }
     ensures { option_map mapped_table result ≡ mapped_database database body.now }
 {
@@ -84,9 +85,9 @@ fn mapped_database(database: usize, body: &[u8]) -> Option<MappedTable<'_>>
     mapped_names(database, body[10 + database] as usize, body)
 }
 
-/// The table of a TABLE_MAP.
+/// The table of a TABLE_MAP, by the body. `None` where the body is not in that form.
 #[tactic(auto, unfolding(crate::specs::Bodies::mapped))]
-pub(crate) fn mapped(body: &[u8]) -> Option<MappedTable<'_>>
+pub fn mapped(body: &[u8]) -> Option<NamedTable<'_>>
     ensures { option_map mapped_table result ≡ mapped body.now }
 {
     if body.len() < 9 {
@@ -95,9 +96,9 @@ pub(crate) fn mapped(body: &[u8]) -> Option<MappedTable<'_>>
     mapped_database(body[8] as usize, body)
 }
 
-/// The id of the table of a rows event.
+/// The id of the table of a rows event, by the body. `None` where the body is too short.
 #[tactic(auto, unfolding(crate::specs::Bodies::rows_id))]
-pub(crate) fn rows_id(body: &[u8]) -> Option<u64>
+pub fn rows_id(body: &[u8]) -> Option<u64>
     ensures { result ≡ rows_id body.now }
 {
     if body.len() < 8 {

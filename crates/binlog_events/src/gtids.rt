@@ -36,9 +36,9 @@ pub(crate) fn sixteen(bytes: &[u8], from: usize) -> u128
     }
 }
 
-/// The GTID of a GTID event.
+/// The GTID of a GTID event, by the body. `None` where the body is not in that form.
 #[tactic(auto, unfolding(crate::specs::Gtids::gtid_of))]
-pub(crate) fn gtid_of(body: &[u8]) -> Option<Gtid>
+pub fn gtid_of(body: &[u8]) -> Option<Gtid>
     ensures { result ≡ gtid_of body.now }
 {
     if body.len() < 25 {

@@ -8,7 +8,7 @@ ghost use Rattle.binlog_events.specs.Gtids.{gtid_of, tagged_of, tagged_gtid};
 ghost use Rattle.binlog_events.specs.Names.{described, names_in};
 ghost use Rattle.binlog_events.specs.Lines.{checksums_text, format_said, xid_said, mapped_said, gtid_said, tagged_text, tagged_said, counted, count_said, table_said, rows_said, is_rows, said, head_text, event_line};
 
-use crate::bodies::{MappedTable, behind, mapped, query_text, rows_id};
+use crate::bodies::{NamedTable, behind, mapped, query_text, rows_id};
 use crate::gtids::{TaggedGtid, gtid_of, tagged_of};
 use crate::kinds::put_kind;
 use crate::names::{DescribedTable, TableNames};
@@ -57,7 +57,7 @@ fn put_xid(out: &mut Vec<u8>, body: &[u8]) -> Result<(), AllocError>
 }
 
 /// Appends what a TABLE_MAP says.
-fn put_mapped(out: &mut Vec<u8>, found: Option<MappedTable<'_>>) -> Result<(), AllocError>
+fn put_mapped(out: &mut Vec<u8>, found: Option<NamedTable<'_>>) -> Result<(), AllocError>
     ensures { OnOk result (out.new.items ≡ out.old.items ++ mapped_said (option_map mapped_table found.entry)) }
 {
     match found {

@@ -1,11 +1,13 @@
 //! The lines of the events of a file that comes in pieces.
 ghost use Rattle.std.specs.Prelude.{◌≡◌, ◌++◌, ℕ, List, [], OnOk, IfOk};
 ghost use Rattle.binlog_frames.specs.Standing.{tail_of, begin_of};
+ghost use Rattle.binlog_events.specs.declared.row_lines.EventDetail.{EventDetail};
 ghost use Rattle.binlog_events.specs.Names.{names_in};
 ghost use Rattle.binlog_events.specs.Listing.{HasCome, BeginsAsListed, Lists, ListsOn, PutsFront, TakesFront, Drains, fault_word, fault_text, refused_line};
 
 use crate::lines::put_event;
 use crate::names::TableNames;
+use crate::row_lines::{EventDetail, put_beneath};
 use crate::text::{put, put_number};
 use binlog_frames::{FaultKind, FrameFault, FrameReader};
 use std::alloc::{AllocError, Global};
@@ -23,6 +25,7 @@ pub struct EventLister {
     frames: FrameReader,
     names: TableNames,
     fault: Option<FrameFault>,
+    detail: EventDetail,
 }
 
 impl Drop for EventLister {
@@ -32,18 +35,20 @@ impl Drop for EventLister {
             frames: _frames,
             names: _names,
             fault: _fault,
+            detail: _detail,
         } = self;
     }
 }
 
-/// Appends the line of the event at the front, and maps what it maps.
+/// Appends the lines of the event at the front, and maps what it maps.
 fn put_front(
     alloc: Global,
+    detail: EventDetail,
     frames: &FrameReader,
     names: &mut TableNames,
     out: &mut Vec<u8>,
 ) -> Result<Front, AllocError>
-    ensures { IfOk result (PutsFront frames.now (names_in names.old) (names_in names.new) out.old.items out.new.items) }
+    ensures { IfOk result (PutsFront detail frames.now (names_in names.old) (names_in names.new) out.old.items out.new.items) }
 {
     match frames.front() {
         Err(fault) => Ok(Front::Fault(fault)),
@@ -53,6 +58,7 @@ fn put_front(
                 .wrapping_add(event.body.len() as u64)
                 .wrapping_add(frames.tail());
             put_event(alloc, out, names, frames.offset(), len, &event)?;
+            put_beneath(alloc, out, detail, names, event.kind, event.body)?;
             names.note(alloc, event.kind, event.body)?;
             Ok(Front::Passed)
         }
@@ -62,13 +68,14 @@ fn put_front(
 /// Takes the event at the front, if it has come whole.
 fn take_front(
     alloc: Global,
+    detail: EventDetail,
     frames: &mut FrameReader,
     names: &mut TableNames,
     out: &mut Vec<u8>,
 ) -> Result<Front, AllocError>
-    ensures { IfOk result (TakesFront frames.old frames.new (names_in names.old) (names_in names.new) out.old.items out.new.items) }
+    ensures { IfOk result (TakesFront detail frames.old frames.new (names_in names.old) (names_in names.new) out.old.items out.new.items) }
 {
-    let front = put_front(alloc, frames, names, out)?;
+    let front = put_front(alloc, detail, frames, names, out)?;
     match front {
         Front::Passed => {
             frames.pass();
@@ -82,14 +89,15 @@ fn take_front(
 /// Takes all events that have come whole, up to the first fault.
 fn drain(
     alloc: Global,
+    detail: EventDetail,
     frames: &mut FrameReader,
     names: &mut TableNames,
     out: &mut Vec<u8>,
 ) -> Result<Option<FrameFault>, AllocError>
-    ensures { IfOk result (Drains frames.old frames.new (names_in names.old) (names_in names.new) out.old.items out.new.items) }
+    ensures { IfOk result (Drains detail frames.old frames.new (names_in names.old) (names_in names.new) out.old.items out.new.items) }
 {
     'events: loop {
-        let front = take_front(alloc, frames, names, out)?;
+        let front = take_front(alloc, detail, frames, names, out)?;
         match front {
             Front::Passed => {}
             Front::NotYet => return Ok(None),
@@ -99,16 +107,17 @@ fn drain(
 }
 
 impl EventLister {
-    /// Before a file.
+    /// Before a file, of whose events so much is listed.
     #[tactic(auto, using(crate::proofs::Listed::begins_as_listed))]
-    pub fn new(alloc: Global) -> EventLister
-        ensures come { HasCome result [] [] }
+    pub fn new(alloc: Global, detail: EventDetail) -> EventLister
+        ensures come { HasCome detail result [] [] }
         ensures begins { BeginsAsListed result }
     {
         EventLister {
             frames: FrameReader::new(alloc),
             names: TableNames::new(alloc),
             fault: None,
+            detail,
         }
     }
 
@@ -122,13 +131,13 @@ impl EventLister {
             return Ok(());
         }
         self.frames.feed(alloc, piece)?;
-        self.fault = drain(alloc, &mut self.frames, &mut self.names, out)?;
+        self.fault = drain(alloc, self.detail, &mut self.frames, &mut self.names, out)?;
         Ok(())
     }
 
     /// The first fault of the file, if it ends here.
     pub fn fault(&self) -> Option<FrameFault>
-        ensures { (bytes text : List ℕ) → HasCome self.now bytes text → Lists bytes text result }
+        ensures { (d : EventDetail) (bytes text : List ℕ) → HasCome d self.now bytes text → Lists d bytes text result }
     {
         match self.fault {
             Some(fault) => Some(fault),

@@ -4,7 +4,7 @@ ghost use Rattle.binlog_events.specs.Texts.{table_name};
 ghost use Rattle.binlog_events.specs.Bodies.{mapped_table};
 ghost use Rattle.binlog_events.specs.Names.{described_by, described, names_in, HasNames, no_names, with_name, names_after};
 
-use crate::bodies::{MappedTable, mapped};
+use crate::bodies::{NamedTable, mapped};
 use crate::text::put_table_name;
 use binlog_rows::{MappedColumn, read_columns};
 use std::alloc::{AllocError, Global};
@@ -51,7 +51,7 @@ fn table_name(alloc: Global, database: &[u8], table: &[u8]) -> Result<Vec<u8>, A
 /// What an event says of the table that it maps.
 fn described_by(
     alloc: Global,
-    found: &MappedTable<'_>,
+    found: &NamedTable<'_>,
     body: &[u8],
 ) -> Result<DescribedTable, AllocError>
     ensures { IfOk result (λ table. described table ≡ described_by (mapped_table found.now) body.now) }

@@ -261,9 +261,10 @@ fn items_text(
     }
 }
 
-/// The text of the set that a body has.
+/// The text of the set that the body of PREVIOUS_GTIDS has, with a blank before it; nothing is the empty set. `None` where the body is not in
+/// that form.
 #[tactic(auto, unfolding(crate::specs::Previous::items_of))]
-fn previous_text(alloc: Global, body: &[u8]) -> Result<Option<Vec<u8>>, AllocError>
+pub fn previous_text(alloc: Global, body: &[u8]) -> Result<Option<Vec<u8>>, AllocError>
     ensures { IfOk result (λ text. option_map (λ t. t.items) text ≡ previous_text body.now) }
 {
     if body.len() < 8 {

@@ -1,1 +1,4 @@
 pub mod Walks
+pub mod SignWalks
+pub mod DigitWalks
+pub mod ReadWalks

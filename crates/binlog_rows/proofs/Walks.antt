@@ -5,7 +5,7 @@ use Rattle.binlog_rows.specs.declared.columns.MappedColumn.{MappedColumn}
 use Rattle.binlog_rows.specs.declared.columns.MappedColumn.TheVariants.{Year}
 use Rattle.binlog_rows.specs.Numbers.{and_then, is_set}
 use Rattle.binlog_rows.specs.Columns.{column_at, columns_from}
-use Rattle.binlog_rows.specs.Images.{Value, value_at, values_from, present_from}
+use Rattle.binlog_rows.specs.Images.{ValueBytes, value_at, values_from, present_from}
 use Rattle.binlog_rows.specs.Rows.{Row, row_at, rows_from}
 
 -- what is behind a part
@@ -18,11 +18,11 @@ rest_then : {A B : Type 0} (o : Option (A × List ℕ)) (f : A → B) → rest_o
 rest_then None f = refl
 rest_then (Some q) f = refl
 
-value_then : (nulls : List ℕ) (i : ℕ) (columns : List MappedColumn) (o : Option (Value × List ℕ))
+value_then : (nulls : List ℕ) (i : ℕ) (columns : List MappedColumn) (o : Option (ValueBytes × List ℕ))
     → rest_of (and_then o (λ p. and_then (values_from nulls (i + 1) columns p.1) (λ q. Some (p.0 ∷ q.0, q.1))))
     ≡ and_then (rest_of o) (λ rest. rest_of (values_from nulls (i + 1) columns rest))
 value_then nulls i columns None = refl
-value_then nulls i columns (Some p) = rest_then (values_from nulls (i + 1) columns p.1) (λ (vs : List Value). p.0 ∷ vs)
+value_then nulls i columns (Some p) = rest_then (values_from nulls (i + 1) columns p.1) (λ (vs : List ValueBytes). p.0 ∷ vs)
 
 values_step : (nulls : List ℕ) (i : ℕ) (all : List MappedColumn) (d : MappedColumn) (bytes : List ℕ) → i < length all
     → rest_of (values_from nulls i (drop i all) bytes)

@@ -3,16 +3,18 @@ use Rattle.std.specs.Prelude.{ℕ, ◌+◌, ◌*◌, ◌==◌, ◌&&◌, ◌||�
 use Rattle.binlog_rows.specs.Numbers.{and_then, split, behind, number_of, packed, bits_width}
 use Rattle.binlog_rows.specs.declared.columns.MappedColumn.{MappedColumn}
 use Rattle.binlog_rows.specs.declared.columns.MappedColumn.TheVariants as columns
+use Rattle.binlog_rows.specs.declared.columns.Signedness.TheVariants as signs
+use Rattle.binlog_rows.specs.Signs.{signedness_of, signed_from}
 use Rattle.binlog_rows.specs.declared.columns.ColumnBytes.{ColumnBytes}
 
 -- a column whose type has no metadata: TINYINT, SMALLINT, INT, BIGINT, MEDIUMINT, DATE and YEAR
 unfoldable pub plain_column : ℕ → Option MappedColumn
 plain_column kind =
-    if kind == 1 then Some (columns.Integer 1)
-    else if kind == 2 then Some (columns.Integer 2)
-    else if kind == 3 then Some (columns.Integer 4)
-    else if kind == 8 then Some (columns.Integer 8)
-    else if kind == 9 then Some (columns.Integer 3)
+    if kind == 1 then Some (columns.Integer 1 signs.Unknown)
+    else if kind == 2 then Some (columns.Integer 2 signs.Unknown)
+    else if kind == 3 then Some (columns.Integer 4 signs.Unknown)
+    else if kind == 8 then Some (columns.Integer 8 signs.Unknown)
+    else if kind == 9 then Some (columns.Integer 3 signs.Unknown)
     else if kind == 10 then Some columns.Date
     else if kind == 13 then Some columns.Year
     else None
@@ -97,16 +99,18 @@ columns_from [] (byte ∷ more) = None
 columns_from (kind ∷ kinds) metadata =
     and_then (column_at kind metadata) (λ p. option_map (λ columns. p.0 ∷ columns) (columns_from kinds p.1))
 
--- the types of columns, a byte each, and their metadata
+-- the types of columns, a byte each, their metadata, and the optional metadata
 pub record KindBytes : Type 0 where
   pub kinds : List ℕ
   pub metadata : List ℕ
+  pub options : List ℕ
 
--- from the metadata's length on, which stands packed before it: behind it is a bit for each column, whether it may be NULL
+-- from the metadata's length on, which stands packed before it: behind it is a bit for each column, whether it may be NULL, and then the
+-- optional metadata
 unfoldable pub metadata_at : List ℕ → List ℕ → Option KindBytes
 metadata_at kinds bytes =
     and_then (packed bytes) (λ len. and_then (split len.0 len.1) (λ p.
-    and_then (behind (bits_width (length kinds)) p.1) (λ rest. Some (record { kinds = kinds; metadata = p.0 }))))
+    and_then (behind (bits_width (length kinds)) p.1) (λ options. Some (record { kinds = kinds; metadata = p.0; options = options }))))
 
 -- from the number of columns on, which stands packed before their types
 unfoldable pub kinds_at : List ℕ → Option KindBytes
@@ -118,14 +122,14 @@ behind_name bytes =
     and_then (number_of 1 bytes) (λ len. and_then (behind len.0 len.1) (λ rest.
     and_then (number_of 1 rest) (λ last. if last.0 == 0 then Some last.1 else None)))
 
--- TABLE_MAP: an id of 6 bytes, 2 bytes of flags, the names of the database and the table, and what describes the columns. What is behind
--- that is not read.
+-- TABLE_MAP: an id of 6 bytes, 2 bytes of flags, the names of the database and the table, and what describes the columns
 unfoldable pub described : List ℕ → Option KindBytes
 described body = and_then (behind 8 body) (λ a. and_then (behind_name a) (λ b. and_then (behind_name b) (λ c. kinds_at c)))
 
 unfoldable pub columns_of : List ℕ → Option (List MappedColumn)
-columns_of body = and_then (described body) (λ b. columns_from b.kinds b.metadata)
+columns_of body =
+    and_then (described body) (λ b. option_map (λ columns. signed_from (signedness_of b.options) 0 columns) (columns_from b.kinds b.metadata))
 
 -- what the code gives
 abbrev pub bytes_view : ColumnBytes → KindBytes
-bytes_view b = record { kinds = b.kinds.now; metadata = b.metadata.now }
+bytes_view b = record { kinds = b.kinds.now; metadata = b.metadata.now; options = b.options.now }

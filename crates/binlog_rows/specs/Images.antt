@@ -17,7 +17,7 @@ length_width most = if nat_lt most 256 then 1 else 2
 -- how the values of a column lie: in so many bytes, or behind their length, which takes so many bytes. A fraction has a byte for each two
 -- digits, or for the last one.
 unfoldable pub layout_of : MappedColumn → Layout
-layout_of (Integer width) = Fixed width
+layout_of (Integer width sign) = Fixed width
 layout_of Float = Fixed 4
 layout_of Double = Fixed 8
 layout_of (Decimal precision scale) = Fixed (digits_width (precision - scale) + digits_width scale)
@@ -42,23 +42,23 @@ value_by (Fixed width) bytes = split width bytes
 value_by (Counted width) bytes = and_then (number_of width bytes) (λ len. split len.0 len.1)
 
 -- a value in an image: its bytes, None where it is NULL
-abbrev pub Value : Type 0
-Value = Option (List ℕ)
+abbrev pub ValueBytes : Type 0
+ValueBytes = Option (List ℕ)
 
 -- the value at this place of an image with these null bits, and what is behind it: NULL takes no bytes
-unfoldable pub value_at : List ℕ → ℕ → MappedColumn → List ℕ → Option (Value × List ℕ)
+unfoldable pub value_at : List ℕ → ℕ → MappedColumn → List ℕ → Option (ValueBytes × List ℕ)
 value_at nulls i column bytes =
     if is_set nulls i then Some (None, bytes)
     else and_then (value_by (layout_of column) bytes) (λ p. Some (Some p.0, p.1))
 
 -- the values from this place on, one for each of these columns, and what is behind them
-unfoldable pub values_from : List ℕ → ℕ → List MappedColumn → List ℕ → Option (List Value × List ℕ)
+unfoldable pub values_from : List ℕ → ℕ → List MappedColumn → List ℕ → Option (List ValueBytes × List ℕ)
 values_from nulls i [] bytes = Some ([], bytes)
 values_from nulls i (column ∷ columns) bytes =
     and_then (value_at nulls i column bytes) (λ p. and_then (values_from nulls (i + 1) columns p.1) (λ q. Some (p.0 ∷ q.0, q.1)))
 
 -- an image that has these columns, and what is behind it: a bit for each column, whether it is NULL, and the values
-unfoldable pub image_at : List MappedColumn → List ℕ → Option (List Value × List ℕ)
+unfoldable pub image_at : List MappedColumn → List ℕ → Option (List ValueBytes × List ℕ)
 image_at columns bytes = and_then (split (bits_width (length columns)) bytes) (λ nulls. values_from nulls.0 0 columns nulls.1)
 
 -- the columns of those from this place on that an image has: a bit for each is set

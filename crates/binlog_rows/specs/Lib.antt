@@ -1,4 +1,10 @@
 pub mod Numbers
+pub mod Signs
 pub mod Columns
 pub mod Images
 pub mod Rows
+pub mod Digits
+pub mod Times
+pub mod Decimals
+pub mod Values
+pub mod Reading

@@ -1,5 +1,5 @@
 -- Numbers and bits in the bodies of events. None: the bytes end too early.
-use Rattle.std.specs.Prelude.{ℕ, ◌+◌, ◌/◌, ◌%◌, ◌^◌, ◌==◌, nat_lt, Bool, List, [], ◌∷◌, length, take, drop, slice_index, Option, Some, None, if◌then◌else◌}
+use Rattle.std.specs.Prelude.{ℕ, ◌+◌, ◌-◌, ◌/◌, ◌%◌, ◌^◌, ◌==◌, nat_lt, Bool, List, [], ◌∷◌, length, take, drop, slice_index, Option, Some, None, if◌then◌else◌}
 use Rattle.std.specs.Int.{w64, from_le_bytes}
 
 abbrev pub and_then : {A B : Type 0} → Option A → (A → Option B) → Option B
@@ -19,6 +19,16 @@ abbrev pub low_number : List ℕ → ℕ
 low_number bytes = from_le_bytes w64 (
     slice_index bytes 0 ∷ slice_index bytes 1 ∷ slice_index bytes 2 ∷ slice_index bytes 3
     ∷ slice_index bytes 4 ∷ slice_index bytes 5 ∷ slice_index bytes 6 ∷ slice_index bytes 7 ∷ [])
+
+-- the byte at a place counted from the last one, 0 where there is none
+abbrev pub from_end : List ℕ → ℕ → ℕ
+from_end bytes i = if nat_lt i (length bytes) then slice_index bytes (length bytes - 1 - i) else 0
+
+-- the number that up to eight bytes are, highest first
+unfoldable pub high_number : List ℕ → ℕ
+high_number bytes = from_le_bytes w64 (
+    from_end bytes 0 ∷ from_end bytes 1 ∷ from_end bytes 2 ∷ from_end bytes 3
+    ∷ from_end bytes 4 ∷ from_end bytes 5 ∷ from_end bytes 6 ∷ from_end bytes 7 ∷ [])
 
 -- the number of so many bytes at the front, and what is behind it
 unfoldable pub number_of : ℕ → List ℕ → Option (ℕ × List ℕ)

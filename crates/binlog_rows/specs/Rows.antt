@@ -1,13 +1,13 @@
 -- The rows of a rows event. None: its body is not in that form.
 use Rattle.std.specs.Prelude.{ℕ, zero, suc, ◌-◌, ◌==◌, ◌||◌, ◌&&◌, nat_lt, nat_le, Bool, List, [], ◌∷◌, length, Option, Some, None, option_map, if◌then◌else◌}
 use Rattle.binlog_rows.specs.Numbers.{and_then, split, behind, number_of, packed, bits_width}
-use Rattle.binlog_rows.specs.Images.{Value, image_at, present_from}
+use Rattle.binlog_rows.specs.Images.{ValueBytes, image_at, present_from}
 use Rattle.binlog_rows.specs.declared.columns.MappedColumn.{MappedColumn}
 use Rattle.binlog_rows.specs.declared.bodies.BodyBytes.{BodyBytes}
 
 -- a row is its two images: UPDATE has that before and that after, WRITE and DELETE have one, and the second one has no columns
 abbrev pub Row : Type 0
-Row = List Value × List Value
+Row = List ValueBytes × List ValueBytes
 
 -- the row at the front, whose images have these columns, and what is behind it
 unfoldable pub row_at : List MappedColumn → List MappedColumn → List ℕ → Option (Row × List ℕ)

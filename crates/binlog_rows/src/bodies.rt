@@ -83,12 +83,12 @@ fn behind_head(kind: u8, body: &[u8]) -> Option<&[u8]>
 
 /// A rows event without its head.
 #[derive(Drop)]
-struct BodyBytes<'a> {
+pub(crate) struct BodyBytes<'a> {
     /// A bit for each column of the map, whether the first image has it.
-    first: &'a [u8],
+    pub(crate) first: &'a [u8],
     /// The same of the second image, which only UPDATE has.
-    second: &'a [u8],
-    rows: &'a [u8],
+    pub(crate) second: &'a [u8],
+    pub(crate) rows: &'a [u8],
 }
 
 /// How many bytes the bits of the second image take.
@@ -122,7 +122,7 @@ fn bits_at(kind: u8, count: u64, bytes: &[u8]) -> Option<BodyBytes<'_>>
 
 /// The parts of a rows event whose table has so many columns.
 #[tactic(auto, unfolding(crate::specs::Rows::body_of))]
-fn body_of(kind: u8, count: u64, body: &[u8]) -> Option<BodyBytes<'_>>
+pub(crate) fn body_of(kind: u8, count: u64, body: &[u8]) -> Option<BodyBytes<'_>>
     ensures { option_map body_view result ≡ body_of kind count body.now }
 {
     let Some(rest) = behind_head(kind, body) else {

@@ -3,13 +3,23 @@ ghost use Rattle.std.specs.Prelude.{◌≡◌, option_map, IfOk};
 ghost use Rattle.binlog_rows.specs.Columns.{plain_column, column_by_byte, string_column, bit_column, decimal_column, column_by_bytes, metadata_width, column_by, column_at, columns_from, bytes_view, metadata_at, kinds_at, behind_name, described, columns_of};
 
 use crate::numbers::{behind, bits_width, number_of, packed, split};
+use crate::signs::{signed, signedness_in};
 use std::alloc::{AllocError, Global};
 
-/// The type of a column, with what a TABLE_MAP says of the width of its values.
+/// Whether the numbers of a column have a sign.
+#[derive(Clone, Copy, Drop)]
+pub enum Signedness {
+    /// The TABLE_MAP doesn't say; servers before 8.0.1 wrote it so.
+    Unknown,
+    Signed,
+    Unsigned,
+}
+
+/// The type of a column, with what a TABLE_MAP says of its values.
 #[derive(Clone, Copy, Drop)]
 pub enum MappedColumn {
     /// TINYINT, SMALLINT, MEDIUMINT, INT or BIGINT, of so many bytes.
-    Integer(u8),
+    Integer(u8, Signedness),
     Float,
     Double,
     /// DECIMAL of so many digits, and so many of these behind the point.
@@ -48,11 +58,11 @@ fn plain_column(kind: u8) -> Option<MappedColumn>
     ensures { result ≡ plain_column kind }
 {
     match kind {
-        1 => Some(MappedColumn::Integer(1)),
-        2 => Some(MappedColumn::Integer(2)),
-        3 => Some(MappedColumn::Integer(4)),
-        8 => Some(MappedColumn::Integer(8)),
-        9 => Some(MappedColumn::Integer(3)),
+        1 => Some(MappedColumn::Integer(1, Signedness::Unknown)),
+        2 => Some(MappedColumn::Integer(2, Signedness::Unknown)),
+        3 => Some(MappedColumn::Integer(4, Signedness::Unknown)),
+        8 => Some(MappedColumn::Integer(8, Signedness::Unknown)),
+        9 => Some(MappedColumn::Integer(3, Signedness::Unknown)),
         10 => Some(MappedColumn::Date),
         13 => Some(MappedColumn::Year),
         _ => None,
@@ -198,6 +208,8 @@ fn columns_from(
 struct ColumnBytes<'a> {
     kinds: &'a [u8],
     metadata: &'a [u8],
+    /// The optional metadata.
+    options: &'a [u8],
 }
 
 /// The metadata of columns of these types, from its length on.
@@ -211,10 +223,14 @@ fn metadata_at<'a>(kinds: &'a [u8], bytes: &'a [u8]) -> Option<ColumnBytes<'a>>
     let Some((metadata, nulls)) = split(len, rest) else {
         return None;
     };
-    let Some(_behind) = behind(bits_width(kinds.len() as u64), nulls) else {
+    let Some(options) = behind(bits_width(kinds.len() as u64), nulls) else {
         return None;
     };
-    Some(ColumnBytes { kinds, metadata })
+    Some(ColumnBytes {
+        kinds,
+        metadata,
+        options,
+    })
 }
 
 /// The types of columns and their metadata, from the number of columns on.
@@ -265,8 +281,8 @@ fn described(body: &[u8]) -> Option<ColumnBytes<'_>>
     kinds_at(columns)
 }
 
-/// The columns that the body of a TABLE_MAP describes. `None` where it is not in that form, and where a type is none that servers since 5.6
-/// write.
+/// The columns that the body of a TABLE_MAP describes, and whether their numbers have a sign, if its optional metadata says so. `None` where
+/// it is not in that form, and where a type is none that servers since 5.6 write.
 #[tactic(auto, unfolding(crate::specs::Columns::columns_of))]
 pub fn read_columns(alloc: Global, body: &[u8]) -> Result<Option<Vec<MappedColumn>>, AllocError>
     ensures { IfOk result (λ found. option_map (λ v. v.items) found ≡ columns_of body.now) }
@@ -274,5 +290,8 @@ pub fn read_columns(alloc: Global, body: &[u8]) -> Result<Option<Vec<MappedColum
     let Some(parts) = described(body) else {
         return Ok(None);
     };
-    columns_from(alloc, parts.kinds, parts.metadata)
+    let Some(columns) = columns_from(alloc, parts.kinds, parts.metadata)? else {
+        return Ok(None);
+    };
+    Ok(Some(signed(alloc, signedness_in(parts.options), &columns)?))
 }

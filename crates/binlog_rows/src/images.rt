@@ -8,7 +8,7 @@ use std::alloc::{AllocError, Global};
 
 /// How the values of a column lie.
 #[derive(Clone, Copy, Drop)]
-enum Layout {
+pub(crate) enum Layout {
     /// In so many bytes.
     Fixed(u64),
     /// Behind their length, which takes so many bytes.
@@ -16,7 +16,7 @@ enum Layout {
 }
 
 /// How many bytes so many digits of a DECIMAL take.
-fn digits_width(digits: u8) -> u64
+pub(crate) fn digits_width(digits: u8) -> u64
     ensures { result ≡ digits_width digits }
 {
     digits as u64 / 9 * 4 + (digits as u64 % 9 + 1) / 2
@@ -31,7 +31,7 @@ fn length_width(most: u16) -> u64
 
 /// How the values of a column lie.
 #[tactic(auto, unfolding(crate::specs::Images::layout_of))]
-fn layout_of(column: MappedColumn) -> Layout
+pub(crate) fn layout_of(column: MappedColumn) -> Layout
     ensures { result ≡ layout_of column }
 {
     match column {
@@ -39,7 +39,7 @@ fn layout_of(column: MappedColumn) -> Layout
         MappedColumn::Date => Layout::Fixed(3),
         MappedColumn::Float => Layout::Fixed(4),
         MappedColumn::Double => Layout::Fixed(8),
-        MappedColumn::Integer(width) | MappedColumn::Enum(width) | MappedColumn::Set(width) =>
+        MappedColumn::Integer(width, _) | MappedColumn::Enum(width) | MappedColumn::Set(width) =>
             Layout::Fixed(width as u64),
         MappedColumn::Decimal(precision, scale) => Layout::Fixed(
             digits_width(precision.saturating_sub(scale)) + digits_width(scale),
@@ -59,7 +59,7 @@ fn layout_of(column: MappedColumn) -> Layout
 }
 
 /// The bytes of the value at the front, without its length, and what is behind it.
-fn value_by(layout: Layout, bytes: &[u8]) -> Option<(&[u8], &[u8])>
+pub(crate) fn value_by(layout: Layout, bytes: &[u8]) -> Option<(&[u8], &[u8])>
     ensures { option_map (λ p. (p.0.now, p.1.now)) result ≡ value_by layout bytes.now }
 {
     match layout {

@@ -1,6 +1,6 @@
 //! Numbers and bits in the bodies of events.
 ghost use Rattle.std.specs.Prelude.{◌≡◌, slice_index, option_map};
-ghost use Rattle.binlog_rows.specs.Numbers.{split, behind, low_number, number_of, packed_by, packed, bits_width, is_set};
+ghost use Rattle.binlog_rows.specs.Numbers.{split, behind, low_number, from_end, high_number, number_of, packed_by, packed, bits_width, is_set};
 
 /// The first so many bytes, and what is behind them.
 #[tactic(auto, unfolding(crate::specs::Numbers::split))]
@@ -31,7 +31,7 @@ fn cell(bytes: &[u8], place: usize) -> u8
 }
 
 /// The number that up to eight bytes are, lowest first.
-fn low_number(bytes: &[u8]) -> u64
+pub(crate) fn low_number(bytes: &[u8]) -> u64
     ensures { result ≡ low_number bytes.now }
 {
     u64::from_le_bytes([
@@ -43,6 +43,34 @@ fn low_number(bytes: &[u8]) -> u64
         cell(bytes, 5),
         cell(bytes, 6),
         cell(bytes, 7),
+    ])
+}
+
+/// The byte at a place counted from the last one, 0 where there is none.
+fn from_end(bytes: &[u8], place: usize) -> u8
+    ensures { result ≡ from_end bytes.now place }
+{
+    if place < bytes.len() {
+        bytes[bytes.len() - 1 - place]
+    } else {
+        0
+    }
+}
+
+/// The number that up to eight bytes are, highest first.
+#[tactic(auto, unfolding(crate::specs::Numbers::high_number))]
+pub(crate) fn high_number(bytes: &[u8]) -> u64
+    ensures { result ≡ high_number bytes.now }
+{
+    u64::from_le_bytes([
+        from_end(bytes, 0),
+        from_end(bytes, 1),
+        from_end(bytes, 2),
+        from_end(bytes, 3),
+        from_end(bytes, 4),
+        from_end(bytes, 5),
+        from_end(bytes, 6),
+        from_end(bytes, 7),
     ])
 }
 

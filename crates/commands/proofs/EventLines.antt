@@ -7,6 +7,7 @@ use Rattle.std.proofs.lemmas.List.{length-take}
 use Rattle.binlog_frames.specs.declared.fault.FrameFault.{FrameFault}
 use Rattle.binlog_events.specs.Listing.{Lists, HasCome, BeginsListing, BeginsAsListed, ListsOn, refused_line}
 use Rattle.binlog_events.specs.declared.lister.EventLister.{EventLister}
+use Rattle.binlog_events.specs.declared.row_lines.EventDetail.{EventDetail}
 use Rattle.commands.specs.Edge.{Output, StreamsValue, Begins, one_more}
 use Rattle.commands.specs.Printed.{Printed, IsDone, to_all}
 use Rattle.commands.specs.States.{HasWritten, HasBroken}
@@ -22,21 +23,22 @@ take_whole xs = take_all (length xs) xs (omega arith)
 -- ---- one piece
 
 -- the room for lines is empty before
-come_on : (l m : EventLister) (piece room new : List ℕ) → room ≡ [] → ListsOn l m piece room new → (bytes text : List ℕ) → HasCome l bytes text → HasCome m (bytes ++ piece) (text ++ new)
-come_on l m piece room new empty lists bytes text come =
-    lists bytes text (subst (HasCome l bytes) (sym (append-nil text) ∙ ap (λ r. text ++ r) (sym empty)) come)
+come_on : (l m : EventLister) (piece room new : List ℕ) → room ≡ [] → ListsOn l m piece room new
+    → (d : EventDetail) (bytes text : List ℕ) → HasCome d l bytes text → HasCome d m (bytes ++ piece) (text ++ new)
+come_on l m piece room new empty lists d bytes text come =
+    lists d bytes text (subst (HasCome d l bytes) (sym (append-nil text) ∙ ap (λ r. text ++ r) (sym empty)) come)
 
 pub piece_listed : {W : Type 0} (l m : EventLister) (piece room new : List ℕ) (before after : Output W) → room ≡ [] → ListsOn l m piece room new → BeginsAsListed m → HasWritten before after new → ListsPiece l m piece before after
-piece_listed l m piece room new before after empty lists begins wrote bytes text come =
-    let now = come_on l m piece room new empty lists bytes text come in
-    record { added = new; wrote = wrote; come = now; begins = begins (bytes ++ piece) (text ++ new) now }
+piece_listed l m piece room new before after empty lists begins wrote d bytes text come =
+    let now = come_on l m piece room new empty lists d bytes text come in
+    record { added = new; wrote = wrote; come = now; begins = begins d (bytes ++ piece) (text ++ new) now }
 
 pub piece_broken : {W : Type 0} (l m : EventLister) (piece room new : List ℕ) (before after : Output W) (fault : RunFault) → room ≡ [] → ListsOn l m piece room new → BeginsAsListed m → HasBroken before after new fault → fault ≡ Write
     → BreaksPiece l piece before after fault
 piece_broken l m piece room new before after Memory empty lists begins broken is = absurd cc
 piece_broken l m piece room new before after Read empty lists begins broken is = absurd cc
-piece_broken l m piece room new before after Write empty lists begins broken is = λ bytes text come.
-    record { added = new; wrote = broken; begins = begins (bytes ++ piece) (text ++ new) (come_on l m piece room new empty lists bytes text come) }
+piece_broken l m piece room new before after Write empty lists begins broken is = λ d bytes text come.
+    record { added = new; wrote = broken; begins = begins d (bytes ++ piece) (text ++ new) (come_on l m piece room new empty lists d bytes text come) }
 
 module _ {U W : Type 0} (l m : EventLister) (piece room new shown : List ℕ) (before after : Output W) (empty : room ≡ []) (same : shown ≡ new) (lists : ListsOn l m piece room new) (begins : BeginsAsListed m) where
   pub listed_if : (r : Result U RunFault) → OnOk r (HasWritten before after shown) → OnOk r (ListsPiece l m piece before after)
@@ -50,18 +52,18 @@ module _ {U W : Type 0} (l m : EventLister) (piece room new shown : List ℕ) (b
 -- ---- piece by piece
 
 -- so much was read in so many turns, and the lines of that were written
-pub record Sofar {S W : Type 0} (old new : StreamsValue S W) (l : EventLister) (turn : ℕ) : Type 0 where
+pub record Sofar {S W : Type 0} (d : EventDetail) (old new : StreamsValue S W) (l : EventLister) (turn : ℕ) : Type 0 where
   pub bytes : List ℕ
   pub text : List ℕ
   pub taken : Consumes old.input.left new.input.left bytes
   pub many : turn ≤ length bytes
   pub calm : new.input.failed ≡ old.input.failed
   pub wrote : HasWritten old.output new.output text
-  pub come : HasCome l bytes text
-  pub begins : BeginsListing bytes text
+  pub come : HasCome d l bytes text
+  pub begins : BeginsListing d bytes text
 
-pub nothing_yet : {S W : Type 0} (s : StreamsValue S W) (l : EventLister) → HasCome l [] [] → BeginsAsListed l → Sofar s s l 0
-nothing_yet s l come begins = record {
+pub nothing_yet : {S W : Type 0} (d : EventDetail) (s : StreamsValue S W) (l : EventLister) → HasCome d l [] [] → BeginsAsListed l → Sofar d s s l 0
+nothing_yet d s l come begins = record {
   bytes = [];
   text = [];
   taken = Consumes-nil s.input.left;
@@ -69,16 +71,16 @@ nothing_yet s l come begins = record {
   calm = refl;
   wrote = record { wrote = Appends-nil s.output.written; calm = refl };
   come = come;
-  begins = begins [] [] come;
+  begins = begins d [] [] come;
 }
 
-module _ {S W : Type 0} (old mid read : StreamsValue S W) (l : EventLister) (turn : ℕ) (h : Sofar old mid l turn) (same : read.output ≡ mid.output) where
+module _ {S W : Type 0} (d : EventDetail) (old mid read : StreamsValue S W) (l : EventLister) (turn : ℕ) (h : Sofar d old mid l turn) (same : read.output ≡ mid.output) where
   -- a piece was read, and its lines were written
   pub piece_more : (new : StreamsValue S W) (m : EventLister) (n : ℕ) (buffer piece : List ℕ)
       → Consumes mid.input.left read.input.left (take n buffer) → read.input.failed ≡ mid.input.failed → n ≤ length buffer → 0 < n → piece ≡ take n buffer
-      → new.input ≡ read.input → ListsPiece l m piece read.output new.output → Sofar old new m (turn + 1)
+      → new.input ≡ read.input → ListsPiece l m piece read.output new.output → Sofar d old new m (turn + 1)
   piece_more new m n buffer piece taken calm within some is input lists =
-      let k = lists h.bytes h.text h.come in
+      let k = lists d h.bytes h.text h.come in
       let got : Consumes mid.input.left new.input.left piece = subst (Consumes mid.input.left new.input.left) (sym is) (subst (λ i. Consumes mid.input.left i.left (take n buffer)) (sym input) taken) in
       let many : turn ≤ length h.bytes = h.many in
       let len : length piece ≡ n = ap length is ∙ length-take n buffer ∙ omega arith in
@@ -96,7 +98,7 @@ module _ {S W : Type 0} (old mid read : StreamsValue S W) (l : EventLister) (tur
 
   -- a piece was read, and its lines were not all written
   pub piece_stopped : (new : StreamsValue S W) (buffer piece : List ℕ) (n : ℕ) (fault : RunFault)
-      → Consumes mid.input.left read.input.left (take n buffer) → piece ≡ take n buffer → new.input ≡ read.input → BreaksPiece l piece read.output new.output fault → BreaksOff old new fault
+      → Consumes mid.input.left read.input.left (take n buffer) → piece ≡ take n buffer → new.input ≡ read.input → BreaksPiece l piece read.output new.output fault → BreaksOff d old new fault
   piece_stopped new buffer piece n Memory taken is input broken =
       let got : Consumes mid.input.left new.input.left piece = subst (Consumes mid.input.left new.input.left) (sym is) (subst (λ i. Consumes mid.input.left i.left (take n buffer)) (sym input) taken) in
       let out : new.output ≡ mid.output = broken ∙ same in
@@ -114,7 +116,7 @@ module _ {S W : Type 0} (old mid read : StreamsValue S W) (l : EventLister) (tur
   piece_stopped new buffer piece n Read taken is input broken = absurd broken
   piece_stopped new buffer piece n Write taken is input broken =
       let got : Consumes mid.input.left new.input.left piece = subst (Consumes mid.input.left new.input.left) (sym is) (subst (λ i. Consumes mid.input.left i.left (take n buffer)) (sym input) taken) in
-      let k = broken h.bytes h.text h.come in
+      let k = broken d h.bytes h.text h.come in
       let begun : Begins mid.output.written new.output.written k.added = subst (λ o. Begins o.written new.output.written k.added) same k.wrote.0 in
       record {
         bytes = h.bytes ++ piece;
@@ -129,7 +131,7 @@ module _ {S W : Type 0} (old mid read : StreamsValue S W) (l : EventLister) (tur
       }
 
   -- a call of the reader failed
-  pub read_failed : Keeps mid.input.left read.input.left → read.input.failed ≡ one_more mid.input.failed → BreaksOff old read Read
+  pub read_failed : Keeps mid.input.left read.input.left → read.input.failed ≡ one_more mid.input.failed → BreaksOff d old read Read
   read_failed kept counted = record {
     bytes = h.bytes;
     front = h.bytes;
@@ -143,7 +145,7 @@ module _ {S W : Type 0} (old mid read : StreamsValue S W) (l : EventLister) (tur
   }
 
   -- the reader is at its end
-  pub all_listed : (n : ℕ) (buffer : List ℕ) (fault : Option FrameFault) → n ≡ 0 → Consumes mid.input.left read.input.left (take n buffer) → IsAtEnd read.input.left → Lists h.bytes h.text fault → ListsAll old read fault
+  pub all_listed : (n : ℕ) (buffer : List ℕ) (fault : Option FrameFault) → n ≡ 0 → Consumes mid.input.left read.input.left (take n buffer) → IsAtEnd read.input.left → Lists d h.bytes h.text fault → ListsAll d old read fault
   all_listed n buffer fault none taken end lists = record {
     bytes = h.bytes;
     text = h.text;
@@ -153,8 +155,8 @@ module _ {S W : Type 0} (old mid read : StreamsValue S W) (l : EventLister) (tur
   }
 
 -- the reader gave so much that the bound of reads was met
-pub too_much : {S W : Type 0} (old new : StreamsValue S W) (l : EventLister) (turn : ℕ) → Sofar old new l turn → 1099511627776 ≤ turn → BreaksOff old new Read
-too_much old new l turn h bound = record {
+pub too_much : {S W : Type 0} (d : EventDetail) (old new : StreamsValue S W) (l : EventLister) (turn : ℕ) → Sofar d old new l turn → 1099511627776 ≤ turn → BreaksOff d old new Read
+too_much d old new l turn h bound = record {
   bytes = h.bytes;
   front = h.bytes;
   rest = [];
@@ -168,25 +170,26 @@ too_much old new l turn h bound = record {
 
 -- ---- the whole
 
-pub done_whole : {S W : Type 0} (old new : StreamsValue S W) (found : Option FrameFault) → found ≡ None → ListsAll old new found → IsDone (to_all IsEventsAnswer) old new Done
-done_whole old new found is all = let h = subst (ListsAll old new) is all in record {
+pub done_whole : {S W : Type 0} (d : EventDetail) (old new : StreamsValue S W) (found : Option FrameFault) → found ≡ None → ListsAll d old new found
+    → IsDone (to_all (IsEventsAnswer d)) old new Done
+done_whole d old new found is all = let h = subst (ListsAll d old new) is all in record {
   printed = listed h.text None;
   answer = (h.bytes, h.read, record { text = h.text; fault = None; lists = h.lists; printed_is = refl });
   wrote = h.wrote.wrote;
   ends = refl;
 }
 
-module _ {S W : Type 0} (old mid new : StreamsValue S W) (fault : FrameFault) (found : Option FrameFault) (is : found ≡ Some fault) (all : ListsAll old mid found) (input : new.input ≡ mid.input) where
-  h : ListsAll old mid (Some fault)
-  h = subst (ListsAll old mid) is all
+module _ {S W : Type 0} (d : EventDetail) (old mid new : StreamsValue S W) (fault : FrameFault) (found : Option FrameFault) (is : found ≡ Some fault) (all : ListsAll d old mid found) (input : new.input ≡ mid.input) where
+  h : ListsAll d old mid (Some fault)
+  h = subst (ListsAll d old mid) is all
 
   abbrev answered : Printed
   answered = listed h.text (Some fault)
 
-  answers : IsEventsAnswer h.bytes answered
+  answers : IsEventsAnswer d h.bytes answered
   answers = record { text = h.text; fault = Some fault; lists = h.lists; printed_is = refl }
 
-  pub done_refused : HasWritten mid.output new.output (refused_line fault) → IsDone (to_all IsEventsAnswer) old new Refused
+  pub done_refused : HasWritten mid.output new.output (refused_line fault) → IsDone (to_all (IsEventsAnswer d)) old new Refused
   done_refused wrote = record {
     printed = answered;
     answer = (h.bytes, (subst (λ i. Consumes old.input.left i.left h.bytes) (sym input) h.read.0, subst (λ i. IsAtEnd i.left) (sym input) h.read.1), answers);
@@ -194,7 +197,7 @@ module _ {S W : Type 0} (old mid new : StreamsValue S W) (fault : FrameFault) (f
     ends = refl;
   }
 
-  pub refused_early : (f : RunFault) → HasBroken mid.output new.output (refused_line fault) f → HasEndedEarly old new f
+  pub refused_early : (f : RunFault) → HasBroken mid.output new.output (refused_line fault) f → HasEndedEarly d old new f
   refused_early Memory broken = inr (inr (record {
     printed = answered;
     answer = (h.bytes, (subst (λ i. Consumes old.input.left i.left h.bytes) (sym input) h.read.0, subst (λ i. IsAtEnd i.left) (sym input) h.read.1), answers);

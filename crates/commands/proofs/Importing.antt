@@ -7,7 +7,8 @@ use Rattle.binlog_bundle.specs.Refused.{IsNoBundle}
 use Rattle.binlog_bundle.specs.declared.fault.BundleFault.{BundleFault}
 use Rattle.binlog_bundle.specs.declared.grants.Grants.{Grants}
 use Rattle.commands.specs.Printed.{Holds}
-use Rattle.commands.specs.Bundles.{written_answer}
+use Rattle.commands.specs.Bundles.{text_answer}
+use Rattle.txn_journal.specs.declared.lines.Version.TheVariants.{Three}
 use Rattle.commands.specs.Reports.{HoldsReport}
 use Rattle.commands.specs.Imports.{Imports, HasLine, bundle_refused, refusal_notes, silent_refusal}
 use Rattle.commands.specs.declared.edge.RunFault.{RunFault}
@@ -15,9 +16,9 @@ use Rattle.commands.specs.declared.report.Report.{Report}
 
 -- the answer to the text of a bundle
 pub imported_so : (grants : Grants) (is_explained : Bool) (text : List ℕ) (b : BundleValue) (notes : List ℕ) (r : Result Report RunFault) → ImportsBundle grants text b notes
-    → IfOk r (λ held. Holds held.answer (written_answer b)) → IfOk r (λ held. held.notes.items ≡ notes) → IfOk r (HoldsReport (Imports grants is_explained) text)
+    → IfOk r (λ held. Holds held.answer (text_answer Three b)) → IfOk r (λ held. held.notes.items ≡ notes) → IfOk r (HoldsReport (Imports grants is_explained) text)
 imported_so grants is_explained text b notes (Ok held) imports holds e = record {
-  printed = written_answer b;
+  printed = text_answer Three b;
   reported = inl (record { bundle = b; imports = subst (ImportsBundle grants text b) (sym e) imports; answers = refl });
   holds = holds;
 }

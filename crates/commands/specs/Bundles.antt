@@ -1,11 +1,8 @@
 -- What the commands on bundles answer.
-use Rattle.std.specs.Prelude.{ℕ, ◌-◌, Bool, true, false, ◌||◌, nat_lt, List, [], ◌∷◌, ◌++◌, length, Result, Ok, Err, if◌then◌else◌}
-use Rattle.std.specs.List.{list_any}
+use Rattle.std.specs.Prelude.{ℕ, ◌-◌, List, ◌++◌, Result, Ok, Err, if◌then◌else◌}
 use Rattle.std.specs.FinSet as set
 use Rattle.rows.specs.declared.change.RowFault.{RowFault}
 use Rattle.rows.specs.declared.change.TableRow.{TableRow}
-use Rattle.rows.specs.declared.limits.Limits.{Limits}
-use Rattle.rows.specs.declared.limits.Limits.TheVariants.{Narrow, Wide}
 use Rattle.rows.specs.declared.schema.Table.{Table}
 use Rattle.rows.specs.Apply.{Rows}
 use Rattle.world.specs.declared.verdict.Verdict.{Verdict}
@@ -63,18 +60,6 @@ before targets.Three = BeforeThree
 abbrev pub written_by : Target → Version
 written_by targets.Two = Two
 written_by targets.Three = Three
-
-abbrev pub is_wide : Limits → Bool
-is_wide Narrow = false
-is_wide Wide = true
-
--- version 3 where a table has its limits or something is assumed, else version 2
-abbrev pub written_version : BundleValue → Version
-written_version b = if list_any (λ t. is_wide t.limits) b.start.schema || nat_lt 0 (length b.assumptions) then Three else Two
-
--- by that version
-abbrev pub written_answer : BundleValue → Printed
-written_answer b = text_answer (written_version b) b
 
 -- it is what upgrading to this version answers to these bytes
 abbrev pub Upgrades : Target → List ℕ → Printed → Type 0

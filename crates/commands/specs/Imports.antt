@@ -28,7 +28,8 @@ use Rattle.binlog_bundle.specs.declared.fault.BundleFault.{BundleFault}
 use Rattle.binlog_bundle.specs.declared.fault.BundleFault.TheVariants as bundles
 use Rattle.binlog_bundle.specs.declared.grants.Grants.{Grants}
 use Rattle.commands.specs.Printed.{Printed, with_line_feed}
-use Rattle.commands.specs.Bundles.{written_answer}
+use Rattle.commands.specs.Bundles.{text_answer}
+use Rattle.txn_journal.specs.declared.lines.Version.TheVariants.{Three}
 use Rattle.commands.specs.LogPlaces.{Place, place_at, place_text}
 use Rattle.commands.specs.declared.edge.Outcome.TheVariants as outcomes
 use Rattle.commands.specs.declared.import_fault.ImportCause.{ImportCause}
@@ -152,11 +153,11 @@ refusal_notes is_explained text r = with_line_feed (refused_line text r) ++ expl
 abbrev pub silent_refusal : Printed
 silent_refusal = record { text = []; outcome = outcomes.Refused }
 
--- The text is imported: the answer is the bundle's text by version 2 or 3, and the notes are what a verdict on that won't see.
+-- The text is imported: the answer is the bundle's text by version 3, and the notes are what a verdict on that won't see and it doesn't say.
 pub record IsImport (grants : Grants) (text : List ℕ) (printed : Printed) (notes : List ℕ) : Type 0 where
   pub bundle : BundleValue
   pub imports : ImportsBundle grants text bundle notes
-  pub answers : printed ≡ written_answer bundle
+  pub answers : printed ≡ text_answer Three bundle
 
 -- The text is refused: nothing is printed, and the notes are the line of the refusal, with what explains it.
 pub record IsImportRefused (grants : Grants) (is_explained : Bool) (text : List ℕ) (printed : Printed) (notes : List ℕ) : Type 0 where

@@ -8,7 +8,7 @@ ghost use Rattle.commands.specs.Events.{IsEventsAnswer, ListsAll, BreaksOff, Has
 use crate::edge::{Outcome, RunFault, Sink, Source};
 use crate::reading::MOST_READS;
 use crate::streams::Streams;
-use binlog_events::{EventLister, put_refusal};
+use binlog_events::{EventDetail, EventLister, put_refusal};
 use binlog_frames::FrameFault;
 use std::alloc::{AllocError, Global};
 
@@ -42,12 +42,13 @@ fn first_of(bytes: &[u8], n: usize) -> &[u8]
 /// Reads a file, and writes the lines of its events up to the first fault, which it gives.
 fn list_all<S: Source, W: Sink>(
     alloc: Global,
+    detail: EventDetail,
     streams: &mut Streams<S, W>,
 ) -> Result<Option<FrameFault>, RunFault>
-    ensures done { IfOk result (ListsAll streams.old streams.new) }
-    ensures fault { IfErr result (BreaksOff streams.old streams.new) }
+    ensures done { IfOk result (ListsAll detail streams.old streams.new) }
+    ensures fault { IfErr result (BreaksOff detail streams.old streams.new) }
 {
-    let mut lister = EventLister::new(alloc);
+    let mut lister = EventLister::new(alloc, detail);
     let mut lines = Vec::new(alloc);
     let mut piece = [0u8; 65_536];
     for _turn in 0..MOST_READS {
@@ -92,16 +93,17 @@ fn write_refusal<S: Source, W: Sink>(
     }
 }
 
-/// Reads the bytes of a binary log, and writes a line for each of its events, as soon as it is whole; at the first fault the line of the
-/// refusal, and nothing after it. Of the log one event is kept at a time.
+/// Reads the bytes of a binary log, and writes a line for each of its events, and one for each row if these are asked for, as soon as the
+/// event is whole; at the first fault the line of the refusal, and nothing after it. Of the log one event is kept at a time.
 pub fn run_events<S: Source, W: Sink>(
     alloc: Global,
+    detail: EventDetail,
     streams: &mut Streams<S, W>,
 ) -> Result<Outcome, RunFault>
-    ensures done { IfOk result (IsDone (to_all IsEventsAnswer) streams.old streams.new) }
-    ensures failed { IfErr result (HasEndedEarly streams.old streams.new) }
+    ensures done { IfOk result (IsDone (to_all (IsEventsAnswer detail)) streams.old streams.new) }
+    ensures failed { IfErr result (HasEndedEarly detail streams.old streams.new) }
 {
-    let found = match list_all(alloc, streams) {
+    let found = match list_all(alloc, detail, streams) {
         Ok(found) => found,
         Err(fault) => return Err(fault),
     };

@@ -1,8 +1,8 @@
 //! The command `import`.
 ghost use Rattle.std.specs.Prelude.{◌≡◌, IfOk, IfErr, OnOk};
-ghost use Rattle.std.specs.List.{list_any};
 ghost use Rattle.commands.specs.Printed.{Holds};
-ghost use Rattle.commands.specs.Bundles.{is_wide, written_version, written_answer};
+ghost use Rattle.commands.specs.Bundles.{text_answer};
+ghost use Rattle.txn_journal.specs.declared.lines.Version.TheVariants.{Three};
 ghost use Rattle.commands.specs.Reports.{HoldsReport, HasReported, HasNotReported};
 ghost use Rattle.commands.specs.Imports.{Imports, HasLine, bundle_refused, refusal_notes, silent_refusal};
 
@@ -14,43 +14,16 @@ use crate::pieces::Text;
 use crate::report::{Report, Reporter, run_report};
 use crate::streams::Streams;
 use binlog_bundle::{BundleFault, Grants, ImportedBundle, import_bundle};
-use rows::{Limits, Table};
 use std::alloc::Global;
 use std::mem;
 use txn_journal::{Bundle, Version, bundle_text};
 
-fn is_wide(limits: Limits) -> bool
-    ensures { result ≡ is_wide limits }
-{
-    match limits {
-        Limits::Narrow => false,
-        Limits::Wide => true,
-    }
-}
-
-fn has_wide(tables: &[Table]) -> bool
-    ensures { result ≡ list_any (λ t. is_wide t.limits) tables.now }
-{
-    tables.iter().any(|table| is_wide(table.limits))
-}
-
-/// The version by which a bundle is written: 3 where a table has its limits or something is assumed, else 2.
-fn written_version(bundle: &Bundle) -> Version
-    ensures { result ≡ written_version bundle.now }
-{
-    if has_wide(bundle.schema().tables()) || !bundle.assumptions().is_empty() {
-        Version::Three
-    } else {
-        Version::Two
-    }
-}
-
 /// The text of a bundle.
 fn import_found(alloc: Global, bundle: &Bundle) -> Result<Answer, RunFault>
-    ensures ok { IfOk result (λ answer. Holds answer (written_answer bundle.now)) }
+    ensures ok { IfOk result (λ answer. Holds answer (text_answer Three bundle.now)) }
     ensures memory { IfErr result (λ f. f ≡ RunFault.Memory) }
 {
-    match bundle_text(alloc, written_version(bundle), bundle) {
+    match bundle_text(alloc, Version::Three, bundle) {
         Ok(text) => Ok(Answer {
             outcome: Outcome::Done,
             text: Text::of(alloc, text),
@@ -59,9 +32,9 @@ fn import_found(alloc: Global, bundle: &Bundle) -> Result<Answer, RunFault>
     }
 }
 
-/// The text of a bundle, and what a verdict on it won't see. The bundle is leaked: the end of the process frees it.
+/// The text of a bundle, and what a verdict on it won't see and it doesn't say. The bundle is leaked: the end of the process frees it.
 fn report_imported(alloc: Global, imported: ImportedBundle) -> Result<Report, RunFault>
-    ensures answer { IfOk result (λ held. Holds held.answer (written_answer imported.bundle)) }
+    ensures answer { IfOk result (λ held. Holds held.answer (text_answer Three imported.bundle)) }
     ensures notes { IfOk result (λ held. held.notes.items ≡ imported.notes.items) }
     ensures memory { IfErr result (λ f. f ≡ RunFault.Memory) }
 {
@@ -131,10 +104,10 @@ impl Reporter for Import {
     }
 }
 
-/// Reads a bundle whose journals are the texts of logs. If it is imported, its text by version 2 or 3 of the format is written to the streams,
-/// and to `errors` a line for each thing that a verdict on it won't see, by what the operator grants. If it is refused, nothing is written
-/// to the streams, and to `errors` the line of the refusal; if `is_explained`, also the line that it names, with the transaction, the end
-/// of the event and the file.
+/// Reads a bundle whose journals are the texts of logs. If it is imported, its text by version 3 of the format is written to the streams,
+/// with a line for each thing that a verdict rests on by what the operator grants; and to `errors` a line for each that the text doesn't say. If
+/// it is refused, nothing is written to the streams, and to `errors` the line of the refusal; if `is_explained`, also the line that it
+/// names, with the transaction, the end of the event and the file.
 pub fn run_import<S: Source, W: Sink, E: Sink>(
     alloc: Global,
     grants: Grants,

@@ -12,11 +12,11 @@ IsForOneToMost (Audit order listing) = Unit {0}
 IsForOneToMost (Upgrade target) = Unit {0}
 IsForOneToMost States = Unit {0}
 IsForOneToMost (Import grants is_explained) = Unit {0}
-IsForOneToMost (Events file) = Unit {0}
+IsForOneToMost (Events file detail) = Unit {0}
 IsForOneToMost Version = Unit {0}
 IsForOneToMost (Position own ask) = Unit {0}
 
 -- the name of the file that is read in the place of standard input
 abbrev pub file_of : Command → Option (List ℕ)
-file_of (Events file) = option_map (λ f. f.now) file
+file_of (Events file detail) = option_map (λ f. f.now) file
 file_of command = None

@@ -1,5 +1,6 @@
 -- What the program does for each command: which answer of crate `commands` it writes.
 use Rattle.std.specs.Prelude.{◌≡◌, ℕ, List, Option, option_map}
+use Rattle.binlog_events.specs.declared.row_lines.EventDetail.{EventDetail}
 use Rattle.commands.specs.Edge.{StreamsValue}
 use Rattle.commands.specs.Printed.{Printed, Answering, at_once, to_all, IsDone, HasFailed, HasStopped}
 use Rattle.commands.specs.SetCommand.{set_answering}
@@ -23,7 +24,7 @@ use Rattle.gtidrep.specs.declared.line.Command.TheVariants.{Set, Position, Audit
 pub data Doing : Type 1 where
   answers : Answering → Doing
   answers_in_parts : Answering → Doing
-  lists_events : Doing
+  lists_events : EventDetail → Doing
   reports : (List ℕ → Printed → List ℕ → Type 0) → Doing
 
 -- what each command does
@@ -36,7 +37,7 @@ doing_of (Audit order listing.Explained) = reports (Explains order)
 doing_of (Upgrade target) = answers (to_all (Upgrades target))
 doing_of States = answers_in_parts (to_all IsStatesAnswer)
 doing_of (Import grants is_explained) = reports (Imports grants is_explained)
-doing_of (Events file) = lists_events
+doing_of (Events file detail) = lists_events detail
 doing_of Version = answers (at_once printed_version)
 doing_of (Apply way order workers) = answers (to_all (Applies order))
 doing_of (Tell order workers) = reports (Tells order)
@@ -46,7 +47,7 @@ module _ {S W E : Type 0} (written : E → Option (List ℕ)) (failed : E → �
   abbrev pub HasRun : Doing → Outcome → Type 0
   HasRun (answers answering) outcome = IsDone answering before after outcome × (new ≡ old)
   HasRun (answers_in_parts answering) outcome = IsDone answering before after outcome × (new ≡ old)
-  HasRun lists_events outcome = IsDone (to_all IsEventsAnswer) before after outcome × (new ≡ old)
+  HasRun (lists_events detail) outcome = IsDone (to_all (IsEventsAnswer detail)) before after outcome × (new ≡ old)
   HasRun (reports notes) outcome = HasReported written failed notes old new before after outcome
 
   -- it has failed, with standard error as it was, or with the notes on it cut off; of an answer in parts there may be some,
@@ -54,5 +55,5 @@ module _ {S W E : Type 0} (written : E → Option (List ℕ)) (failed : E → �
   abbrev pub HasNotRun : Doing → RunFault → Type 0
   HasNotRun (answers answering) fault = HasFailed answering before after fault × (new ≡ old)
   HasNotRun (answers_in_parts answering) fault = HasStopped answering before after fault × (new ≡ old)
-  HasNotRun lists_events fault = HasEndedEarly before after fault × (new ≡ old)
+  HasNotRun (lists_events detail) fault = HasEndedEarly detail before after fault × (new ≡ old)
   HasNotRun (reports notes) fault = HasNotReported written failed notes old new before after fault

@@ -66,10 +66,11 @@ Example:
 Status: 0 printed, 1 refused, 2 the command line, 3 memory, 4 reading or writing failed.";
 
 pub(crate) const IMPORT_EXAMPLE: &str =
-    "Reads a bundle of version 2 in which each journal is what mysqlbinlog prints of binary logs of MySQL, and prints it with
+    "Reads a bundle of version 3 in which each journal is what mysqlbinlog prints of binary logs of MySQL, and prints it with
 its journals. Transactions of the opening set are left out by mysqlbinlog itself. The line of a channel ends with the
-gtid_executed of its server, so that a log that ends early is refused. Standard error has the refusal, which names the line
-of the input, or else a line for each thing that a verdict on the bundle can't see.
+gtid_executed of its server, so that a log that ends early is refused. What an option grants the bundle says in its lines
+`assume ..`. Standard error has the refusal, which names the line of the input, or else a line for each table whose keys
+--bytes takes.
 
 Example:
   set -o pipefail
@@ -84,7 +85,8 @@ pub(crate) const EVENTS_EXAMPLE: &str =
     "Reads the bytes of a binary log file of MySQL, or those of standard input where no file is named, and prints a line for each
 event: the offset at which it begins, its kind, its length, and what it says: a GTID, the set of those in earlier files, a
 table and the number of its rows, the text of a statement. All checksums and positions are tested; the line of the first
-fault, with its offset and a word, is the last one. The values of rows are not shown.
+fault, with its offset and a word, is the last one. With --rows the rows of a rows event are listed below it, in the words of a
+journal, `upd` with the values before and after.
 
 Example:
   gtidrep events east-bin.000001 | grep -A 9 aaaaaaaa-aaaa-aaaa-aaaa-aaaaaaaaaaaa:17

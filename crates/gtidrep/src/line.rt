@@ -6,6 +6,7 @@ use crate::help::{
     SET_EXAMPLE, STATES_EXAMPLE, UPGRADE_EXAMPLE,
 };
 use binlog_bundle::Grants;
+use binlog_events::EventDetail;
 use clap::builder::ValueParser;
 use clap::error::ErrorKind;
 use clap::{Arg, ArgAction, ArgMatches, Error};
@@ -49,7 +50,7 @@ pub enum Command<'a> {
     },
     /// Servers from standard input are compared.
     States,
-    /// A bundle from standard input whose journals are the texts of binary logs is written by version 2, or its refusal is explained.
+    /// A bundle from standard input whose journals are the texts of binary logs is written by version 3, or its refusal is explained.
     Import {
         grants: Grants,
         is_explained: bool,
@@ -57,6 +58,7 @@ pub enum Command<'a> {
     /// The events of a binary log are listed, of this file or from standard input.
     Events {
         file: Option<&'a str>,
+        detail: EventDetail,
     },
     /// The version of the program is asked for.
     Version,
@@ -248,7 +250,20 @@ fn events_command<'a>(alloc: Global) -> Result<clap::Command<'a>, AllocError> {
             Arg::new(alloc, "file")
                 .action(ArgAction::Set)
                 .help("the binary log file; standard input where none is given"),
-        )
+        )?
+        .arg(flag(
+            alloc,
+            "rows",
+            "lists the rows of each rows event below it, with their values",
+        ))
+}
+
+fn detail_of(matches: &ArgMatches) -> EventDetail {
+    if matches.get_flag("rows") {
+        EventDetail::Rows
+    } else {
+        EventDetail::Line
+    }
 }
 
 /// The ways to apply a bundle, by the words that name them.
@@ -416,6 +431,7 @@ fn command_of<'a>(name: &str, matches: &ArgMatches<'a>) -> Option<Command<'a>>
     if name == "events" {
         return Some(Command::Events {
             file: matches.get_str("file"),
+            detail: detail_of(matches),
         });
     }
     if name == "import" {
@@ -432,7 +448,7 @@ pub fn file_of<'a>(command: &Command<'a>) -> Option<&'a str>
     ensures { option_map (λ f. f.now) result ≡ file_of command.now }
 {
     match command {
-        Command::Events { file } => *file,
+        Command::Events { file, detail: _ } => *file,
         _ => None,
     }
 }

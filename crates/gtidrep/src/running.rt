@@ -59,7 +59,7 @@ pub fn run_over<T: Threads + Wait + Sync, S: Source + Send, W: Sink, E: Sink>(
             grants,
             is_explained,
         } => run_import(alloc, grants, is_explained, streams, errors),
-        Command::Events { file: _ } => run_events(alloc, streams),
+        Command::Events { file: _, detail } => run_events(alloc, detail, streams),
         Command::Version => run_version(alloc, streams),
         Command::Apply {
             way,

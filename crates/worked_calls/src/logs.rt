@@ -279,7 +279,7 @@ fn gaps(rt: HostRuntime) -> Result<(), Fail> {
 
 /// A table whose primary key is the column of text.
 const TEXT_KEY: &[u8] =
-    b"bundle 2\nreplica cccccccc-cccc-cccc-cccc-cccccccccccc\nopening -\ntable two 2 pk 1\ndone\n";
+    b"bundle 3\nreplica cccccccc-cccc-cccc-cccc-cccccccccccc\nopening -\ntable two 2 pk 1\ndone\n";
 
 #[test]
 fn a_key_of_text(rt: HostRuntime) -> Result<(), Fail> {
@@ -297,7 +297,7 @@ fn a_key_of_text(rt: HostRuntime) -> Result<(), Fail> {
             assert!(rt; imported.varied.as_slice() == [0].as_slice());
             assert!(rt;
                 imported.text.starts_with(
-                    b"journal 2\nprevious c0df3372-e8db-11f1-a586-02fc00000001:1-33\ntxn c0df3372-e8db-11f1-a586-02fc00000001:40 0 1\nupd two 4294967295 x6c617374 | 9 null\nend\nclose\n"
+                    b"journal 3\nprevious c0df3372-e8db-11f1-a586-02fc00000001:1-33\ntxn c0df3372-e8db-11f1-a586-02fc00000001:40 0 1\nupd two 4294967295 x6c617374 | 9 null\nend\nclose\n"
                 )
             );
         }

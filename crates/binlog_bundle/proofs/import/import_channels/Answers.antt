@@ -8,11 +8,12 @@ use Rattle.binlog_bundle.proofs.import.import_channels.Goals as goal
 
 pub returns-in-Err-clause-refused : goal.returns-in-Err-clause-refused
 returns-in-Err-clause-refused c =
-    start_refused c.args.grants c.in-Err.fault c.fault_in_head.result c.args.text.now c.args.head.now c.args.plain.text.items c.args.plain.notes.items c.args.rest.now c.requires.head
+    start_refused c.args.grants c.args.start.now c.in-Err.fault c.fault_in_head.result c.args.text.now c.args.head.now c.args.plain.text.items c.args.rest.now c.args.plain.passed_over c.requires.head c.requires.more c.requires.begins
     (subst (StopsAt c.in-Err.fault) c.deref.ensures.value (c.in-Err.ensures.refused [] (start_fed (bundle_reading c.start.result) c.start.ensures)))
-    (c.fault_in_head.ensures c.requires.head.plain_head.lines (head_lines c.args.grants c.args.head.now c.args.plain.text.items c.args.plain.notes.items c.requires.head.plain_head))
+    (c.fault_in_head.ensures c.requires.head.plain_head.lines (head_lines c.args.grants c.args.head.now c.args.plain.text.items c.args.plain.passed_over c.requires.head.plain_head))
 
 pub take_channels-requires : goal.take_channels-requires
 take_channels-requires c =
-    come_head c.args.grants c.args.start.now c.args.head.now c.args.plain.text.items c.args.text.now c.args.rest.now (record { reader = c.add.new.reader; executed = c.new.result; notes = c.args.plain.notes }) c.requires.head c.requires.begins
-    (subst (IsFed (bundle_reading c.add.new.reader)) c.deref.ensures.value (c.in-Ok.ensures.fed [] (start_fed (bundle_reading c.start.result) c.start.ensures))) c.new.ensures.items
+    come_head c.args.grants c.args.start.now c.args.head.now c.args.plain.text.items c.args.text.now c.args.rest.now
+    (record { reader = c.add.new.reader; executed = c.new.result; assumed = c.new-2.result; passed_over = c.args.plain.passed_over; notes = c.new-3.result }) c.requires.head c.requires.begins
+    (subst (IsFed (bundle_reading c.add.new.reader)) c.deref.ensures.value (c.in-Ok.ensures.fed [] (start_fed (bundle_reading c.start.result) c.start.ensures))) c.new.ensures.items c.new-2.ensures.items c.new-3.ensures.items

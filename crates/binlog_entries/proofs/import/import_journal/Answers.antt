@@ -9,20 +9,20 @@ use Rattle.binlog_entries.specs.Stream.{IsLog, Refuses}
 use Rattle.binlog_entries.specs.declared.fault.ReadFault.{ReadFault}
 use Rattle.binlog_entries.specs.declared.import.ImportFault.{ImportFault}
 use Rattle.binlog_entries.specs.declared.import.ImportFault.TheVariants as faults
-use Rattle.binlog_entries.specs.declared.varied.Varied.{Varied}
+use Rattle.log_transactions.specs.declared.varied.Varied.{Varied}
 use Rattle.binlog_entries.proofs.import.import_journal.Goals as goal
 
 taken : (tables same_tables : List Table) (bytes : Bool) (varied same_varied : List Varied) → same_tables ≡ tables → same_varied ≡ varied → AreKeysTaken same_tables bytes same_varied → AreKeysTaken tables bytes varied
 taken tables same_tables bytes varied same_varied ts vs keys e = (λ i. varied_key (sym ts i) (sym vs i)) ∙ keys e
 
-pub returns-in-Ok-encode_v2-clause-found : goal.returns-in-Ok-encode_v2-clause-found
-returns-in-Ok-encode_v2-clause-found c = record {
+pub returns-in-Ok-journal_text-clause-found : goal.returns-in-Ok-journal_text-clause-found
+returns-in-Ok-journal_text-clause-found c = record {
   journal = c.in-Ok-journal.journal;
   varied = c.in-Ok.log.varied.items;
   log = subst (λ (j : JournalValue). IsLog c.args.opening.now c.args.text.now j.previous j.entries c.in-Ok.log.varied.items) (sym c.in-Ok-journal.ensures.found) c.in-Ok.ensures.found;
   keys = taken c.args.schema.now c.tables.result.now c.args.bytes c.in-Ok.log.varied.items c.deref.result.now c.tables.ensures.value c.deref.ensures.value c.in-Ok-places_of.ensures.taken;
   varies = c.in-Ok-places_of.ensures.places ∙ (λ i. varied_places 0 (c.tables.ensures.value i) (c.deref.ensures.value i));
-  spells = c.in-Ok-encode_v2.ensures.spelled;
+  spells = c.in-Ok-journal_text.ensures;
 }
 
 pub returns-in-Err-journal-clause-refused : goal.returns-in-Err-journal-clause-refused

@@ -1,0 +1,5 @@
+pub mod TableLaws
+pub mod Telling
+pub mod Numbered
+pub mod Running
+pub mod Wholes

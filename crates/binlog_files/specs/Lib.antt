@@ -1,0 +1,9 @@
+pub mod Settled
+pub mod Statements
+pub mod Tables
+pub mod Rows
+pub mod Told
+pub mod Taking
+pub mod Moved
+pub mod Files
+pub mod Whole

@@ -1,0 +1,30 @@
+-- What the statement of a QUERY tells: the beginning or the end of a transaction, a savepoint, or a flush. Each is a line of mysqlbinlog's
+-- text, too; any other statement is refused.
+use Rattle.std.specs.Prelude.{ℕ, nat_eq, List, [], ◌∷◌, Option, Some, None, Result, Ok, Err, codes, if◌then◌else◌}
+use Rattle.std.specs.List.{starts_with}
+use Rattle.binlog_text.specs.Lines.{Content, OfMark}
+use Rattle.binlog_text.specs.Reading.{line_of}
+use Rattle.binlog_text.specs.declared.lines.Mark.{Mark}
+use Rattle.binlog_text.specs.declared.lines.Mark.TheVariants as marks
+use Rattle.log_transactions.specs.Events.{Event, Begins, Savepoint, Commits, Flushes}
+use Rattle.binlog_files.specs.declared.fault.FileRefusal.{FileRefusal}
+use Rattle.binlog_files.specs.declared.fault.FileRefusal.TheVariants as refusals
+
+-- distributed transactions have a word of their own
+abbrev pub statement_refusal : List ℕ → FileRefusal
+statement_refusal text = if starts_with nat_eq text (codes "XA ") then refusals.Xa else refusals.Statement
+
+abbrev pub mark_told : List ℕ → Mark → Result Event FileRefusal
+mark_told text marks.Begin = Ok Begins
+mark_told text marks.Commit = Ok Commits
+mark_told text marks.Savepoint = Ok Savepoint
+mark_told text marks.Flush = Ok Flushes
+mark_told text _ = Err (statement_refusal text)
+
+abbrev pub content_told : List ℕ → Option Content → Result Event FileRefusal
+content_told text (Some (OfMark mark)) = mark_told text mark
+content_told text _ = Err (statement_refusal text)
+
+-- what a statement tells
+unfoldable pub statement_told : List ℕ → Result Event FileRefusal
+statement_told text = content_told text (line_of text)

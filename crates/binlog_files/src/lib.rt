@@ -1,0 +1,26 @@
+//! What the events of binary log files of MySQL tell of a log's transactions, read from bytes that come in any pieces.
+//!
+//! What a contract sees: `told` (`specs/Told`) is what an event tells, in the words of `log_transactions`, where these tables are mapped, or why
+//! it is refused; `take_events` (`specs/Taking`) is a state after events, of which transactions of the opening set are passed over, whatever they
+//! hold. `LogFiles` is fed the bytes of the files of a log, one file after another (`HasTaken`). A file whose bytes are not those of events, by
+//! the grammar of `binlog_frames`, or an event that is refused, ends the reading, with the event's offset (`IsDamagedAt`, `IsRefusedAt`).
+//!
+//! What is kept is one event's bytes, the tables that were mapped, and the log.
+//!
+//! Not read: what is in a TRANSACTION_PAYLOAD, GTIDs with tags, PARTIAL_UPDATE_ROWS: they are refused by name. Which columns a server compares
+//! otherwise than by their bytes isn't read at all. Not proved: that these are the bodies of a server. A log of MySQL 9.7.4 was read so once,
+//! and gave the changes that `import` reads of its text (988 of 450 transactions); no test of the repository does that yet.
+#![tactic(auto)]
+
+mod bodies;
+mod fault;
+mod files;
+mod mapping;
+mod previous;
+mod row_events;
+mod statements;
+mod tables;
+mod taking;
+
+pub use fault::{FileFault, FileRefusal};
+pub use files::{FilesFault, LogFiles};

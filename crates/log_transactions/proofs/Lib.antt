@@ -1,0 +1,6 @@
+pub mod EventLaws
+mod JoinLaws
+mod KnownLaws
+mod NameLaws
+mod PlaceLaws
+mod SpansWithin

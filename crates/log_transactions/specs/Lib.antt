@@ -1,0 +1,9 @@
+pub mod Events
+pub mod Files
+pub mod Tables
+pub mod Places
+pub mod Varied
+pub mod Known
+pub mod Machine
+pub mod States
+pub mod Meaning

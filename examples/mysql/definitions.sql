@@ -1,0 +1,23 @@
+-- Prints what servers have to have alike: a line `<database.table> TAB <engine, column, unique key or foreign key>` for each.
+--   mysql -N < definitions.sql
+SET SESSION group_concat_max_len = 1000000;
+WITH tables_here AS (
+  SELECT TABLE_SCHEMA, TABLE_NAME, ENGINE, CONCAT_WS('.', TABLE_SCHEMA, TABLE_NAME) AS of_table FROM information_schema.TABLES
+  WHERE TABLE_TYPE = 'BASE TABLE' AND TABLE_SCHEMA NOT IN ('mysql', 'sys', 'information_schema', 'performance_schema'))
+SELECT of_table, CONCAT('engine ', ENGINE) FROM tables_here
+UNION ALL
+SELECT of_table, CONCAT_WS(' ', 'column', ORDINAL_POSITION, COLUMN_NAME, COLUMN_TYPE, COLLATION_NAME, IF(IS_NULLABLE = 'NO', 'NOT NULL', NULL),
+  IF(GENERATION_EXPRESSION <> '', CONCAT('AS (', GENERATION_EXPRESSION, ')'), NULL))
+FROM information_schema.COLUMNS JOIN tables_here USING (TABLE_SCHEMA, TABLE_NAME)
+UNION ALL
+SELECT of_table, CONCAT('unique key ', INDEX_NAME, ' (', GROUP_CONCAT(COALESCE(COLUMN_NAME, EXPRESSION), COALESCE(CONCAT('(', SUB_PART, ')'), '')
+  ORDER BY SEQ_IN_INDEX SEPARATOR ', '), ')')
+FROM information_schema.STATISTICS JOIN tables_here USING (TABLE_SCHEMA, TABLE_NAME) WHERE NON_UNIQUE = 0 GROUP BY of_table, INDEX_NAME
+UNION ALL
+SELECT of_table, CONCAT('foreign key ', r.CONSTRAINT_NAME, ' (', GROUP_CONCAT(k.COLUMN_NAME ORDER BY k.ORDINAL_POSITION SEPARATOR ', '), ') to ',
+  CONCAT_WS('.', r.UNIQUE_CONSTRAINT_SCHEMA, r.REFERENCED_TABLE_NAME), ' (', GROUP_CONCAT(k.REFERENCED_COLUMN_NAME ORDER BY k.ORDINAL_POSITION SEPARATOR ', '),
+  ') on delete ', r.DELETE_RULE, ' on update ', r.UPDATE_RULE)
+FROM information_schema.REFERENTIAL_CONSTRAINTS r
+JOIN information_schema.KEY_COLUMN_USAGE k USING (CONSTRAINT_SCHEMA, TABLE_NAME, CONSTRAINT_NAME)
+JOIN tables_here ON tables_here.TABLE_SCHEMA = r.CONSTRAINT_SCHEMA AND tables_here.TABLE_NAME = r.TABLE_NAME
+GROUP BY of_table, r.CONSTRAINT_NAME, r.UNIQUE_CONSTRAINT_SCHEMA, r.REFERENCED_TABLE_NAME, r.DELETE_RULE, r.UPDATE_RULE;
