@@ -19,6 +19,9 @@ A = "aaaaaaaa-aaaa-aaaa-aaaa-aaaaaaaaaaaa"
 REPLICAS = "sweep/three.script"
 ANSWERS = "sweep/three.answers"
 NETWORK = "examples/ring.script"
+HEAD = "examples/binlogs/head"
+FILES = ["east=east.000001", "east=east.000002", "east=east.000003", "west=west.000002"]
+BINLOGS = ["import", "--binlogs", *[it.replace("=", f"={TOP}/examples/binlogs/") for it in FILES]]
 
 
 def library(folder, name):

@@ -14,10 +14,6 @@ SELECT 'engine' AS reason, of_table, CONCAT(of_table, ' (', ENGINE, ')') AS what
 UNION ALL
 SELECT 'name', of_table, of_table FROM tables_here WHERE NOT REGEXP_LIKE(TABLE_NAME, @form_of_names, 'c')
 UNION ALL
-SELECT 'type', of_table, CONCAT(place, ' (', UPPER(DATA_TYPE), ')') FROM columns_here
-WHERE DATA_TYPE IN ('float', 'double', 'json', 'vector', 'geometry', 'point', 'linestring', 'polygon', 'multipoint', 'multilinestring', 'multipolygon',
-  'geomcollection', 'geometrycollection')
-UNION ALL
 SELECT DISTINCT 'collation', of_table, CONCAT(place, ' (', COLLATION_NAME, ')') FROM columns_here JOIN unique_columns USING (TABLE_SCHEMA, TABLE_NAME, COLUMN_NAME)
 WHERE DATA_TYPE IN ('char', 'varchar', 'tinytext', 'text', 'mediumtext', 'longtext') AND COLLATION_NAME <> 'utf8mb4_0900_bin'
   AND NOT (DATA_TYPE = 'char' AND COLLATION_NAME LIKE '%\_bin')
@@ -26,6 +22,10 @@ SELECT 'columns', of_table, CONCAT(of_table, ' (', COUNT(*), ')') FROM columns_h
 UNION ALL
 SELECT 'keys', of_table, CONCAT(of_table, ' (', COUNT(DISTINCT INDEX_NAME), ')') FROM tables_here JOIN unique_columns USING (TABLE_SCHEMA, TABLE_NAME)
 WHERE INDEX_NAME <> 'PRIMARY' GROUP BY of_table HAVING COUNT(DISTINCT INDEX_NAME) > @most_keys
+UNION ALL
+-- 0 and -0 are one key to a server, and have other bytes
+SELECT DISTINCT 'number-key', of_table, CONCAT(place, ' (', UPPER(DATA_TYPE), ')') FROM columns_here JOIN unique_columns USING (TABLE_SCHEMA, TABLE_NAME, COLUMN_NAME)
+WHERE DATA_TYPE IN ('float', 'double')
 ORDER BY reason, what;
 -- A server before 9.7 logs no row that a foreign key's cascade changes.
 SELECT 'cascade', '-', CONCAT_WS('.', CONSTRAINT_SCHEMA, TABLE_NAME, CONSTRAINT_NAME) FROM information_schema.REFERENTIAL_CONSTRAINTS

@@ -17,18 +17,20 @@ use Rattle.txn_journal.specs.declared.lines.Due.TheVariants.{Only}
 use Rattle.txn_journal.specs.declared.lines.Version.TheVariants.{Three}
 use Rattle.binlog_entries.proofs.TransactionLaws.{flat_map_more}
 use Rattle.binlog_bundle.specs.Lines.{with_line_feed, is_channel, lines_in, BeginsOwn, IsCut}
-use Rattle.binlog_bundle.specs.Notes.{notes_for}
-use Rattle.binlog_bundle.specs.Assumed.{IsSaidBefore, IsPartFault}
+use Rattle.binlog_bundle.specs.Notes.{name_in, notes_for}
+use Rattle.binlog_bundle.specs.Assumed.{IsSaidBefore}
 use Rattle.binlog_bundle.specs.Heads.{IsPlainHead}
-use Rattle.binlog_bundle.specs.Executed.{IsCutLine, HadExecuted, IsNoSet, AreWithin, HasLack, HasFullLack, IsFullAt}
+use Rattle.binlog_bundle.specs.Executed.{IsCutLine, IsNoSet, AreWithin, HasLack, HasFullLack, IsFullAt}
 use Rattle.binlog_bundle.specs.Bundles.{done_line, ImportedLog, log_text, journal_text, IsStart, IsImported, Corresponds, said, all_assumed, assumed_for, DescribesBundle, ImportsBundle, BeginsLast, Nowhere, Last}
-use Rattle.binlog_bundle.specs.Refused.{fault_at_line, fault_in_head, channel_fault_at, IsFed, StopsAt, IsTaken, IsRefused, IsHeadRefused, IsOfLine, end_for, IsNoHead, HasTaken, IsLast, IsNoNext, HasChannel, HasNext, HasWord, HasLog, HasMore, CantFollow, HasJournalFault, IsFull, InHead, InLine, InWord, InPart, InLack, IsNoOwn, IsNoneOf, IsNoBundle}
-use Rattle.binlog_bundle.specs.Tables.{HasNoOther}
-use Rattle.binlog_bundle.specs.Channels.{HasHead, HasRead, HasCome, FeedsChannel, IsWordRead, IsWordRefused, IsJournalFault, IsLineTaken, IsSaidTaken, CantTake, NoMemory, Stops, NotSet, FullPart, CantJoin, CantFeedLog, CantFeedChannel, IsDescribed}
+use Rattle.binlog_bundle.specs.Refused.{fault_at_line, fault_in_head, channel_fault_at, IsFed, StopsAt, IsTaken, IsRefused, IsHeadRefused, end_for, IsNoHead, HasTaken, IsLast, IsNoNext, HasChannel, HasNext, HasWord, HasLog, HasMore, CantFollow, HasJournalFault, IsFull, InHead, InLine, InWord, InPart, InLack, IsNoOwn, IsNoneOf, IsNoBundle}
+use Rattle.binlog_bundle.specs.Channels.{HasHead, HasRead, HasCome, FeedsChannel, IsLineTaken, IsSaidTaken, CantTake, NoMemory, Stops, NotSet, FullPart, CantJoin, CantFeedChannel, IsDescribed}
 use Rattle.binlog_bundle.specs.declared.fault.ChannelFault.{ChannelFault}
 use Rattle.binlog_bundle.specs.declared.fault.ChannelFault.TheVariants as channels
 use Rattle.binlog_bundle.specs.declared.channels.ImportProgress.{ImportProgress}
-use Rattle.binlog_bundle.specs.declared.grants.Grants.{Grants}
+use Rattle.binlog_bundle.specs.Logs.{Terms}
+use Rattle.binlog_bundle.specs.declared.assumed.AssumedLine.{AssumedLine}
+use Rattle.binlog_bundle.specs.declared.fault.Logless.{Logless}
+use Rattle.binlog_bundle.specs.declared.fault.SourceFault.TheVariants as sources
 use Rattle.binlog_bundle.proofs.Cutting.{done_begins}
 use Rattle.binlog_bundle.proofs.Counting.{as_many_journals}
 use Rattle.binlog_bundle.proofs.Feeding.{is_taken, refused_more, head_stops}
@@ -37,8 +39,8 @@ use Rattle.binlog_bundle.proofs.Feeding.{is_taken, refused_more, head_stops}
 abbrev pub IsLineAt : List ℕ → List ℕ → ℕ → Type 0
 IsLineAt text left n = (front : List ℕ) → text ≡ front ++ left → n ≡ next_number (lines_in front)
 
-stands_none : (grants : Grants) (head plain : List ℕ) → Corresponds grants head plain [] head plain
-stands_none grants head plain = record { imported = tt; text_is = sym (append-nil head); written_is = sym (append-nil plain) }
+stands_none : (terms : Terms) (head plain : List ℕ) → Corresponds terms head plain [] head plain
+stands_none terms head plain = record { imported = tt; text_is = sym (append-nil head); written_is = sym (append-nil plain) }
 
 part_more : (f : ImportedLog → List ℕ) (head text : List ℕ) (cs : List ImportedLog) (c : ImportedLog) → text ≡ head ++ flat_map f cs → text ++ f c ≡ head ++ flat_map f (cs ++ c ∷ [])
 part_more f head text cs c e =
@@ -46,9 +48,9 @@ part_more f head text cs c e =
     ∙ append_assoc head (flat_map f cs) (f c)
     ∙ ap (λ (xs : List ℕ). head ++ xs) (sym (flat_map_more f cs c))
 
-stands_more : (grants : Grants) (head plain text written : List ℕ) (cs : List ImportedLog) (c : ImportedLog) → Corresponds grants head plain cs text written → IsImported grants plain c → Corresponds grants head plain (cs ++ c ∷ []) (text ++ log_text c) (written ++ journal_text c)
-stands_more grants head plain text written cs c h imported = record {
-  imported = all_push (IsImported grants plain) cs c h.imported imported;
+stands_more : (terms : Terms) (head plain text written : List ℕ) (cs : List ImportedLog) (c : ImportedLog) → Corresponds terms head plain cs text written → IsImported terms plain c → Corresponds terms head plain (cs ++ c ∷ []) (text ++ log_text c) (written ++ journal_text c)
+stands_more terms head plain text written cs c h imported = record {
+  imported = all_push (IsImported terms plain) cs c h.imported imported;
   text_is = part_more log_text head text cs c h.text_is;
   written_is = part_more journal_text plain written cs c h.written_is;
 }
@@ -62,9 +64,9 @@ said_more cs c xs ys e f = f ∙ ap (λ (zs : List (Option Gtids)). zs ++ c.exec
 
 -- ---- what has come
 
-pub come_head : (grants : Grants) (start : BundleValue) (head plain text left : List ℕ) (p : ImportProgress) → HasHead grants text head plain p.passed_over left → IsStart plain start → HasRead p plain
-    → p.executed.items ≡ [] → p.assumed.items ≡ [] → p.notes.items ≡ [] → HasCome grants start text left p
-come_head grants start head plain text left p h has fed none nothing silent = record {
+pub come_head : (terms : Terms) (start : BundleValue) (head plain text left : List ℕ) (p : ImportProgress) → HasHead terms.grants text head plain p.passed_over left → IsStart plain start → HasRead p plain
+    → p.executed.items ≡ [] → p.assumed.items ≡ [] → p.notes.items ≡ [] → HasCome terms start text left p
+come_head terms start head plain text left p h has fed none nothing silent = record {
   head = head;
   plain = plain;
   alone = h.cut.none;
@@ -73,7 +75,7 @@ come_head grants start head plain text left p h has fed none nothing silent = re
   channels = [];
   front = head;
   written = plain;
-  corresponds = stands_none grants head plain;
+  corresponds = stands_none terms head plain;
   parts = h.cut.parts;
   begins = h.cut.begins;
   fed = fed;
@@ -85,22 +87,22 @@ come_head grants start head plain text left p h has fed none nothing silent = re
 channel_parts : (line after log behind : List ℕ) → IsCut after log behind → with_line_feed line ++ after ≡ (with_line_feed line ++ log) ++ behind
 channel_parts line after log behind cut = ap (λ (xs : List ℕ). with_line_feed line ++ xs) cut.parts ∙ sym (append_assoc (with_line_feed line) log behind)
 
-pub come_more : (grants : Grants) (start : BundleValue) (text left line after log behind : List ℕ) (old new : ImportProgress) → is_channel line ≡ true
-    → HasCome grants start text left old → left ≡ with_line_feed line ++ after → IsCut after log behind → FeedsChannel grants start line log old new → HasCome grants start text behind new
-come_more grants start text left line after log behind old new channel come begins cut f =
-    let assumes = assumed_for start f.own f.executed in
+pub come_more : (terms : Terms) (start : BundleValue) (text left line after log behind : List ℕ) (old new : ImportProgress) → is_channel line ≡ true
+    → HasCome terms start text left old → left ≡ with_line_feed line ++ after → IsCut after log behind → FeedsChannel terms start line log old new → HasCome terms start text behind new
+come_more terms start text left line after log behind old new channel come begins cut f =
+    let assumes = assumed_for terms start f.own f.executed in
     let note = notes_for start f.own f.varied in
     let c : ImportedLog = record { line = line; own = f.own; executed = f.executed; log = log; journal = f.brings.journal; varied = f.varied; assumed = assumes; notes = note } in
     record {
       head = come.head;
       plain = come.plain;
       alone = come.alone;
-      plain_head = subst (IsPlainHead grants come.head come.plain) (sym f.same_head) come.plain_head;
+      plain_head = subst (IsPlainHead terms.grants come.head come.plain) (sym f.same_head) come.plain_head;
       has = come.has;
       channels = come.channels ++ c ∷ [];
       front = come.front ++ log_text c;
       written = come.written ++ journal_text c;
-      corresponds = stands_more grants come.head come.plain come.front come.written come.channels c come.corresponds (record { start = start; has = come.has; channel = channel; says = f.says; alone = cut.none; imports = f.brings.imports; assumed_are = refl; notes_are = refl });
+      corresponds = stands_more terms come.head come.plain come.front come.written come.channels c come.corresponds (record { start = start; has = come.has; channel = channel; says = f.says; alone = cut.none; imports = f.brings.imports; assumed_are = refl; notes_are = refl });
       parts =
           come.parts
           ∙ ap (λ (xs : List ℕ). come.front ++ xs) (begins ∙ channel_parts line after log behind cut)
@@ -108,45 +110,45 @@ come_more grants start text left line after log behind old new channel come begi
       begins = cut.begins;
       fed = subst (HasRead new) (append_assoc come.written (with_line_feed f.own) f.brings.journal) (f.brings.fed (come.written ++ with_line_feed f.own) (f.fed come.written come.fed));
       says = said_more come.channels c old.executed.items new.executed.items come.says f.said;
-      assumed = f.assumed ∙ ap (λ (xs : List (List ℕ)). xs ++ assumes) come.assumed ∙ sym (flat_map_more (λ (c : ImportedLog). c.assumed) come.channels c);
+      assumed = f.assumed ∙ ap (λ (xs : List AssumedLine). xs ++ assumes) come.assumed ∙ sym (flat_map_more (λ (c : ImportedLog). c.assumed) come.channels c);
       noted = f.noted ∙ ap (λ (xs : List ℕ). xs ++ note) come.noted ∙ sym (flat_map_more (λ (c : ImportedLog). c.notes) come.channels c);
     }
 
-taken_of : (grants : Grants) (start : BundleValue) (text left : List ℕ) (p : ImportProgress) (come : HasCome grants start text left p) → HasTaken grants come.head come.plain come.front come.written left text
-taken_of grants start text left p come = record { alone = come.alone; passed_over = p.passed_over; plain_head = come.plain_head; channels = come.channels; corresponds = come.corresponds; parts = come.parts; begins = come.begins; taken = is_taken come.written (bundle_reading p.reader) come.fed }
+taken_of : (terms : Terms) (start : BundleValue) (text left : List ℕ) (p : ImportProgress) (come : HasCome terms start text left p) → HasTaken terms come.head come.plain come.front come.written left text
+taken_of terms start text left p come = record { alone = come.alone; passed_over = p.passed_over; plain_head = come.plain_head; channels = come.channels; corresponds = come.corresponds; parts = come.parts; begins = come.begins; taken = is_taken come.written (bundle_reading p.reader) come.fed }
 
 -- ---- why no more has come
 
-full_at : (grants : Grants) (fault : SetFault) (text : List ℕ) → IsFull grants fault text → IsNoOwn grants (faults.Set fault) text
-full_at grants Memory text h = tt
-full_at grants PoolFull text h = h
-full_at grants SourcesFull text h = h
+full_at : (terms : Terms) (fault : SetFault) (text : List ℕ) → IsFull terms fault text → IsNoOwn terms (faults.Set fault) text
+full_at terms Memory text h = tt
+full_at terms PoolFull text h = h
+full_at terms SourcesFull text h = h
 
-own_at : (grants : Grants) (fault : JournalFault) (n : ℕ) (text : List ℕ) → IsNoNext grants fault n text → IsNoOwn grants (fault_at_line fault n) text
-own_at grants (faults.Set fault) n text h = full_at grants fault text (InLine n h)
-own_at grants (faults.Line m cause) n text h = inr (inl (m, h))
-own_at grants (faults.Truncated m) n text h = inr (m, h)
+own_at : (terms : Terms) (fault : JournalFault) (n : ℕ) (text : List ℕ) → IsNoNext terms fault n text → IsNoOwn terms (fault_at_line fault n) text
+own_at terms (faults.Set fault) n text h = full_at terms fault text (InLine n h)
+own_at terms (faults.Line m cause) n text h = inr (inl (m, h))
+own_at terms (faults.Truncated m) n text h = inr (m, h)
 
-pub head_at : (grants : Grants) (fault : JournalFault) (text : List ℕ) → IsNoHead grants fault text → IsNoOwn grants fault text
-head_at grants (faults.Set fault) text h = full_at grants fault text (InHead h)
-head_at grants (faults.Line n cause) text h = inl h
-head_at grants (faults.Truncated n) text h = inl h
+pub head_at : (terms : Terms) (fault : JournalFault) (text : List ℕ) → IsNoHead terms fault text → IsNoOwn terms fault text
+head_at terms (faults.Set fault) text h = full_at terms fault text (InHead h)
+head_at terms (faults.Line n cause) text h = inl h
+head_at terms (faults.Truncated n) text h = inl h
 
-journal_at : (grants : Grants) (fault : JournalFault) (n : ℕ) (text : List ℕ) → HasJournalFault grants fault n text → IsNoneOf grants (fault_at_line fault n) text
-journal_at grants (faults.Set fault) n text h = (n, h)
-journal_at grants (faults.Line m cause) n text h = (m, h)
-journal_at grants (faults.Truncated m) n text h = absurd h.follow.stops
+journal_at : (terms : Terms) (fault : JournalFault) (n : ℕ) (text : List ℕ) → HasJournalFault terms fault n text → IsNoneOf terms (fault_at_line fault n) text
+journal_at terms (faults.Set fault) n text h = (n, h)
+journal_at terms (faults.Line m cause) n text h = (m, h)
+journal_at terms (faults.Truncated m) n text h = absurd h.follow.stops
 
 -- the line of a channel is refused
-line_refused : (grants : Grants) (start : BundleValue) (text left line after own : List ℕ) (word : Option (List ℕ)) (p : ImportProgress) (fault : JournalFault) (n : ℕ) (come : HasCome grants start text left p)
-    → BeginsWithLine left line after → is_channel line ≡ true → IsCutLine line own word → StopsAt fault (come.written ++ with_line_feed own) → IsLineAt text left n → IsNoOwn grants (fault_at_line fault n) text
-line_refused grants start text left line after own word p fault n come begins channel cut stops at = own_at grants fault n text (inl (record {
+line_refused : (terms : Terms) (start : BundleValue) (text left line after own : List ℕ) (word : Option (List ℕ)) (p : ImportProgress) (fault : JournalFault) (n : ℕ) (come : HasCome terms start text left p)
+    → BeginsWithLine left line after → is_channel line ≡ true → IsCutLine line own word → StopsAt fault (come.written ++ with_line_feed own) → IsLineAt text left n → IsNoOwn terms (fault_at_line fault n) text
+line_refused terms start text left line after own word p fault n come begins channel cut stops at = own_at terms fault n text (inl (record {
   head = come.head;
   plain = come.plain;
   front = come.front;
   written = come.written;
   left = left;
-  come = taken_of grants start text left p come;
+  come = taken_of terms start text left p come;
   next = line;
   after = after;
   begins = begins;
@@ -171,12 +173,12 @@ is_last left own behind (Nowhere e) parts first = inr (front_nil own behind (sym
 is_last left own behind (Last after e) parts first = inl (first (codes "done") after (done_begins left after e)).0
 
 -- what is said before what is left is said of what has come
-says_of : (grants : Grants) (start : BundleValue) (text left other said : List ℕ) (p : ImportProgress) (come : HasCome grants start text left p) → left ≡ other → IsSaidBefore left p.assumed.items p.passed_over said → IsSaidBefore other (all_assumed come.channels) p.passed_over said
-says_of grants start text left other said p come e says = subst (λ (xs : List ℕ). IsSaidBefore xs (all_assumed come.channels) p.passed_over said) e (subst (λ (ls : List (List ℕ)). IsSaidBefore left ls p.passed_over said) come.assumed says)
+says_of : (terms : Terms) (start : BundleValue) (text left other said : List ℕ) (p : ImportProgress) (come : HasCome terms start text left p) → left ≡ other → IsSaidBefore left p.assumed.items p.passed_over said → IsSaidBefore other (all_assumed come.channels) p.passed_over said
+says_of terms start text left other said p come e says = subst (λ (xs : List ℕ). IsSaidBefore xs (all_assumed come.channels) p.passed_over said) e (subst (λ (ls : List AssumedLine). IsSaidBefore left ls p.passed_over said) come.assumed says)
 
 -- what has come, where what is left is in two parts
-abbrev taken_before : (grants : Grants) (start : BundleValue) (text left other : List ℕ) (p : ImportProgress) (come : HasCome grants start text left p) → left ≡ other → HasTaken grants come.head come.plain come.front come.written other text
-taken_before grants start text left other p come e = record {
+abbrev taken_before : (terms : Terms) (start : BundleValue) (text left other : List ℕ) (p : ImportProgress) (come : HasCome terms start text left p) → left ≡ other → HasTaken terms come.head come.plain come.front come.written other text
+taken_before terms start text left other p come e = record {
   alone = come.alone;
   passed_over = p.passed_over;
   plain_head = come.plain_head;
@@ -188,50 +190,50 @@ taken_before grants start text left other p come e = record {
 }
 
 -- what comes after the last line is refused, or that there is none
-pub end_refused : (grants : Grants) (start : BundleValue) (text left own behind said : List ℕ) (p : ImportProgress) (q : BundleProgress) (fault : JournalFault) (n : ℕ) → BeginsLast left → HasCome grants start text left p → left ≡ own ++ behind → SplitsFirst left own behind → IsSaidBefore left p.assumed.items p.passed_over said
-    → ((before : List ℕ) → HasRead p before → IsFed q (before ++ (said ++ own))) → ((before : List ℕ) → IsFed q before → IsRefused fault (before ++ behind)) → IsLineAt text behind n → IsNoOwn grants (fault_at_line fault n) text
-end_refused grants start text left own behind said p q fault n last come parts first says fed stops at =
+pub end_refused : (terms : Terms) (start : BundleValue) (text left own behind said : List ℕ) (p : ImportProgress) (q : BundleProgress) (fault : JournalFault) (n : ℕ) → BeginsLast left → HasCome terms start text left p → left ≡ own ++ behind → SplitsFirst left own behind → IsSaidBefore left p.assumed.items p.passed_over said
+    → ((before : List ℕ) → HasRead p before → IsFed q (before ++ (said ++ own))) → ((before : List ℕ) → IsFed q before → IsRefused fault (before ++ behind)) → IsLineAt text behind n → IsNoOwn terms (fault_at_line fault n) text
+end_refused terms start text left own behind said p q fault n last come parts first says fed stops at =
     let fed_own = fed come.written come.fed in
-    own_at grants fault n text (inr (inr (record {
+    own_at terms fault n text (inr (inr (record {
       head = come.head;
       plain = come.plain;
       front = come.front;
       written = come.written;
       last = own;
       behind = behind;
-      come = taken_before grants start text left (own ++ behind) p come parts;
+      come = taken_before terms start text left (own ++ behind) p come parts;
       ends = is_last left own behind last parts first;
       assumes = said;
-      says = says_of grants start text left (own ++ behind) said p come parts says;
+      says = says_of terms start text left (own ++ behind) said p come parts says;
       taken = is_taken (come.written ++ (said ++ own)) q fed_own;
       stops = subst (IsRefused fault) (append_assoc come.written (said ++ own) behind) (stops (come.written ++ (said ++ own)) fed_own);
       number = at (come.front ++ own) (come.parts ∙ ap (λ (xs : List ℕ). come.front ++ xs) parts ∙ sym (append_assoc come.front own behind));
     })))
 
 -- the last line is refused, or what is said before it, or nothing is
-pub last_refused : (grants : Grants) (start : BundleValue) (text left own behind said : List ℕ) (p : ImportProgress) (fault : JournalFault) (n : ℕ) → BeginsLast left → HasCome grants start text left p → left ≡ own ++ behind → SplitsFirst left own behind → IsSaidBefore left p.assumed.items p.passed_over said
-    → ((before : List ℕ) → HasRead p before → StopsAt fault (before ++ (said ++ own))) → IsLineAt text left n → IsNoOwn grants (fault_at_line fault n) text
-last_refused grants start text left own behind said p fault n (Last after e) come parts first says stops at =
+pub last_refused : (terms : Terms) (start : BundleValue) (text left own behind said : List ℕ) (p : ImportProgress) (fault : JournalFault) (n : ℕ) → BeginsLast left → HasCome terms start text left p → left ≡ own ++ behind → SplitsFirst left own behind → IsSaidBefore left p.assumed.items p.passed_over said
+    → ((before : List ℕ) → HasRead p before → StopsAt fault (before ++ (said ++ own))) → IsLineAt text left n → IsNoOwn terms (fault_at_line fault n) text
+last_refused terms start text left own behind said p fault n (Last after e) come parts first says stops at =
     let is : own ≡ done_line = (first (codes "done") after (done_begins left after e)).0 in
-    own_at grants fault n text (inr (inl (record {
+    own_at terms fault n text (inr (inl (record {
       head = come.head;
       plain = come.plain;
       front = come.front;
       written = come.written;
       after = after;
-      come = taken_before grants start text left (done_line ++ after) p come e;
+      come = taken_before terms start text left (done_line ++ after) p come e;
       assumes = said;
-      says = says_of grants start text left (done_line ++ after) said p come e says;
+      says = says_of terms start text left (done_line ++ after) said p come e says;
       stops = subst (λ (xs : List ℕ). StopsAt fault (come.written ++ (said ++ xs))) is (stops come.written come.fed);
       number = at come.front come.parts;
     })))
-last_refused grants start text left own behind said p fault n (Nowhere e) come parts first says stops at =
+last_refused terms start text left own behind said p fault n (Nowhere e) come parts first says stops at =
     let none = front_nil own behind (sym e ∙ parts) in
     let nothing : left ≡ behind = parts ∙ ap (λ (xs : List ℕ). xs ++ behind) none.0 in
     let silent : said ≡ [] = subst (λ (xs : List ℕ). IsSaidBefore xs p.assumed.items p.passed_over said) e says in
     let both : said ++ own ≡ [] = (λ i. silent i ++ none.0 i) in
     let same : (xs : List ℕ) → xs ++ (said ++ own) ≡ xs = λ xs. ap (λ (ys : List ℕ). xs ++ ys) both ∙ append-nil xs in
-    end_refused grants start text left own behind said p (bundle_reading p.reader) fault n (Nowhere e) come parts first says
+    end_refused terms start text left own behind said p (bundle_reading p.reader) fault n (Nowhere e) come parts first says
     (λ before fed. subst (HasRead p) (sym (same before)) fed)
     (λ before fed. refused_more fault before behind (subst (StopsAt fault) (same before) (stops before fed)))
     (subst (λ (xs : List ℕ). IsLineAt text xs n) nothing at)
@@ -247,21 +249,21 @@ next_channel left line after log behind channel begins cut = record {
 }
 
 -- all that has come before a channel, its line, and the text behind
-pub record ComesNext (grants : Grants) (start : BundleValue) (text left line after log behind : List ℕ) (p : ImportProgress) (n : ℕ) : Type 0 where
+pub record ComesNext (terms : Terms) (start : BundleValue) (text left line after log behind : List ℕ) (p : ImportProgress) (n : ℕ) : Type 0 where
   pub channel : is_channel line ≡ true
-  pub come : HasCome grants start text left p
+  pub come : HasCome terms start text left p
   pub begins : BeginsWithLine left line after
   pub cut : IsCut after log behind
   pub at : IsLineAt text left n
 
-module _ {grants : Grants} {start : BundleValue} {text left line after log behind : List ℕ} {p : ImportProgress} {n : ℕ} (h : ComesNext grants start text left line after log behind p n) where
-  has_next : (own : List ℕ) → IsTaken (h.come.written ++ with_line_feed own) → HasNext grants n text h.come.written line own log start
+module _ {terms : Terms} {start : BundleValue} {text left line after log behind : List ℕ} {p : ImportProgress} {n : ℕ} (h : ComesNext terms start text left line after log behind p n) where
+  has_next : (own : List ℕ) → IsTaken (h.come.written ++ with_line_feed own) → HasNext terms n text h.come.written line own log start
   has_next own taken = record {
     head = h.come.head;
     plain = h.come.plain;
     front = h.come.front;
     left = left;
-    come = taken_of grants start text left p h.come;
+    come = taken_of terms start text left p h.come;
     rest = behind;
     next = next_channel left line after log behind h.channel h.begins h.cut;
     taken = taken;
@@ -269,25 +271,25 @@ module _ {grants : Grants} {start : BundleValue} {text left line after log behin
     number = h.at h.come.front h.come.parts;
   }
 
-  has_word : (own : List ℕ) (word : Option (List ℕ)) → IsLineTaken line h.come.written own word → HasWord grants n text word
+  has_word : (own : List ℕ) (word : Option (List ℕ)) → IsLineTaken line h.come.written own word → HasWord terms n text word
   has_word own word t = record { written = h.come.written; channel = line; own = own; log = log; start = start; next = has_next own t.taken; cut = t.cut }
 
-  has_log : (own : List ℕ) (said_here : Option Gtids) → IsSaidTaken grants line h.come.written own said_here → HasLog grants n text log h.come.written line own said_here start
+  has_log : (own : List ℕ) (said_here : Option Gtids) → IsSaidTaken terms.grants line h.come.written own said_here → HasLog terms n text log h.come.written line own said_here start
   has_log own said_here t = record { next = has_next own t.taken; says = t.says }
 
-  not_set : (own word : List ℕ) (fault : JournalFault) → IsLineTaken line h.come.written own (Some word) → IsNoSet word fault → IsNoOwn grants (fault_at_line fault n) text
-  not_set own word (faults.Set fault) t denied = full_at grants fault text (InWord (n, word, has_word own (Some word) t, denied))
+  not_set : (own word : List ℕ) (fault : JournalFault) → IsLineTaken line h.come.written own (Some word) → IsNoSet word fault → IsNoOwn terms (fault_at_line fault n) text
+  not_set own word (faults.Set fault) t denied = full_at terms fault text (InWord (n, word, has_word own (Some word) t, denied))
   not_set own word (faults.Line m cause) t denied = inr (inr (denied.0, (word, has_word own (Some word) t, denied.1)))
   not_set own word (faults.Truncated m) t denied = absurd denied
 
-  set_at : (fault : JournalFault) (full : SetFault) → fault ≡ faults.Set full → IsNoOwn grants (faults.Set full) text → IsNoOwn grants (fault_at_line fault n) text
-  set_at fault full e denied = subst (λ (f : JournalFault). IsNoOwn grants (fault_at_line f n) text) (sym e) denied
+  set_at : (fault : JournalFault) (full : SetFault) → fault ≡ faults.Set full → IsNoOwn terms (faults.Set full) text → IsNoOwn terms (fault_at_line fault n) text
+  set_at fault full e denied = subst (λ (f : JournalFault). IsNoOwn terms (fault_at_line f n) text) (sym e) denied
 
-  cant_take : (fault : JournalFault) → CantTake grants start line h.come.written fault → IsNoOwn grants (fault_at_line fault n) text
+  cant_take : (fault : JournalFault) → CantTake terms.grants start line h.come.written fault → IsNoOwn terms (fault_at_line fault n) text
   cant_take fault (NoMemory e) = set_at fault Memory e tt
-  cant_take fault (Stops own word cut stops) = line_refused grants start text left line after own word p fault n h.come h.begins h.channel cut stops h.at
+  cant_take fault (Stops own word cut stops) = line_refused terms start text left line after own word p fault n h.come h.begins h.channel cut stops h.at
   cant_take fault (NotSet own word t denied) = not_set own word fault t denied
-  cant_take fault (FullPart own said_here full t denied e) = set_at fault full e (full_at grants full text (InPart (record {
+  cant_take fault (FullPart own said_here full t denied e) = set_at fault full e (full_at terms full text (InPart (record {
     line = n;
     written = h.come.written;
     channel = line;
@@ -299,7 +301,7 @@ module _ {grants : Grants} {start : BundleValue} {text left line after log behin
     full = denied;
   })))
 
-  cant_follow : (own : List ℕ) (said_here : Option Gtids) (fault : JournalFault) → IsSaidTaken grants line h.come.written own said_here → CantJoin grants start log (h.come.written ++ with_line_feed own) fault → CantFollow grants fault n text start log
+  cant_follow : (own : List ℕ) (said_here : Option Gtids) (fault : JournalFault) → IsSaidTaken terms.grants line h.come.written own said_here → CantJoin terms start (name_in own) log (h.come.written ++ with_line_feed own) fault → CantFollow terms fault n text start log
   cant_follow own said_here fault t cant = record {
     written = h.come.written;
     channel = line;
@@ -313,7 +315,7 @@ module _ {grants : Grants} {start : BundleValue} {text left line after log behin
   }
 
   -- a channel is refused
-  pub channel_refused : (fault : ChannelFault) → ((before : List ℕ) → HasRead p before → CantFeedChannel grants start line log before fault) → IsNoBundle grants (channel_fault_at fault n) text
+  pub channel_refused : (fault : ChannelFault) → ((before : List ℕ) → HasRead p before → CantFeedChannel terms start line log before fault) → IsNoBundle terms (channel_fault_at fault n) text
   channel_refused (channels.Own fault) cant = cant_take fault (cant h.come.written h.come.fed)
   channel_refused channels.Unknown cant =
       let why = cant h.come.written h.come.fed in
@@ -326,13 +328,19 @@ module _ {grants : Grants} {start : BundleValue} {text left line after log behin
       record { start = start; log = log; fault = why.cant.0; of_line = why.cant.1; follow = cant_follow why.own why.executed why.cant.0 why.line_taken why.cant.2; other = why.cant.3 }
   channel_refused (channels.Journal fault) cant =
       let why = cant h.come.written h.come.fed in
-      journal_at grants fault n text (record { start = start; log = log; follow = cant_follow why.own why.executed fault why.line_taken why.cant.0; no_other = why.cant.1 })
+      journal_at terms fault n text (record { start = start; log = log; follow = cant_follow why.own why.executed fault why.line_taken why.cant.0; no_other = why.cant.1 })
+  channel_refused (channels.Logless of_log) cant =
+      let why = cant h.come.written h.come.fed in
+      (name_in why.own, record { written = h.come.written; channel = line; own = why.own; log = log; executed = why.executed; start = start; has = has_log why.own why.executed why.line_taken; named = refl; none = why.cant })
+  channel_refused (channels.Binlog name of_log) cant =
+      let why = cant h.come.written h.come.fed in
+      (n, record { written = h.come.written; channel = line; own = why.own; log = log; executed = why.executed; start = start; has = has_log why.own why.executed why.line_taken; named = why.cant.0; none = subst (λ (xs : List ℕ). terms.origin.refuses xs log start.opened (sources.File of_log)) (sym why.cant.0) why.cant.1 })
 
 -- ---- the whole
 
-pub end_found : (grants : Grants) (start : BundleValue) (text left own behind said : List ℕ) (p : ImportProgress) (q : BundleProgress) (b : BundleValue) → BeginsLast left → HasCome grants start text left p → left ≡ own ++ behind → IsSaidBefore left p.assumed.items p.passed_over said
-    → ((before : List ℕ) → HasRead p before → IsFed q (before ++ (said ++ own))) → ((before : List ℕ) → IsFed q before → WritesBundle (before ++ behind) b) → IsDescribed grants text b p.executed.items p.notes.items
-end_found grants start text left own behind said p q b last come parts says fed writes = record {
+pub end_found : (terms : Terms) (start : BundleValue) (text left own behind said : List ℕ) (p : ImportProgress) (q : BundleProgress) (b : BundleValue) → BeginsLast left → HasCome terms start text left p → left ≡ own ++ behind → IsSaidBefore left p.assumed.items p.passed_over said
+    → ((before : List ℕ) → HasRead p before → IsFed q (before ++ (said ++ own))) → ((before : List ℕ) → IsFed q before → WritesBundle (before ++ behind) b) → IsDescribed terms text b p.executed.items p.notes.items
+end_found terms start text left own behind said p q b last come parts says fed writes = record {
   channels = come.channels;
   describes = record {
     head = come.head;
@@ -347,30 +355,30 @@ end_found grants start text left own behind said p q b last come parts says fed 
     ends = subst BeginsLast parts last;
     parts = come.parts ∙ ap (λ (xs : List ℕ). come.front ++ xs) parts;
     assumes = said;
-    says = says_of grants start text left (own ++ behind) said p come parts says;
+    says = says_of terms start text left (own ++ behind) said p come parts says;
     writes = subst (λ (xs : List ℕ). WritesBundle xs b) (append_assoc come.written (said ++ own) behind ∙ ap (λ (xs : List ℕ). come.written ++ xs) (append_assoc said own behind)) (writes (come.written ++ (said ++ own)) (fed come.written come.fed));
     notes_are = come.noted;
   };
   says = come.says;
 }
 
-as_many : (grants : Grants) (text : List ℕ) (cs : List ImportedLog) (b : BundleValue) (notes : List ℕ) → DescribesBundle grants text cs b notes → length cs ≤ length b.journals
-as_many grants text cs b notes d =
-    as_many_journals grants d.plain cs (d.assumes ++ d.tail) b d.corresponds.imported (subst (λ (xs : List ℕ). WritesBundle (xs ++ (d.assumes ++ d.tail)) b) d.corresponds.written_is d.writes)
+as_many : (terms : Terms) (text : List ℕ) (cs : List ImportedLog) (b : BundleValue) (notes : List ℕ) → DescribesBundle terms text cs b notes → length cs ≤ length b.journals
+as_many terms text cs b notes d =
+    as_many_journals terms d.plain cs (d.assumes ++ d.tail) b d.corresponds.imported (subst (λ (xs : List ℕ). WritesBundle (xs ++ (d.assumes ++ d.tail)) b) d.corresponds.written_is d.writes)
 
-pub within_found : (grants : Grants) (text : List ℕ) (b : BundleValue) (executed : List (Option Gtids)) (notes : List ℕ) → IsDescribed grants text b executed notes → AreWithin b executed → ImportsBundle grants text b notes
-within_found grants text b executed notes d within = record { channels = d.channels; describes = d.describes; as_many = as_many grants text d.channels b notes d.describes; within = subst (AreWithin b) d.says within }
+pub within_found : (terms : Terms) (text : List ℕ) (b : BundleValue) (executed : List (Option Gtids)) (notes : List ℕ) → IsDescribed terms text b executed notes → AreWithin b executed → ImportsBundle terms text b notes
+within_found terms text b executed notes d within = record { channels = d.channels; describes = d.describes; as_many = as_many terms text d.channels b notes d.describes; within = subst (AreWithin b) d.says within }
 
-pub lack_refused : (grants : Grants) (text : List ℕ) (b : BundleValue) (executed : List (Option Gtids)) (notes name : List ℕ) (missing : Gtids) → IsDescribed grants text b executed notes → HasLack b executed name missing → HasMore grants name missing text
-lack_refused grants text b executed notes name missing d lack = record { bundle = b; notes = notes; logs = d.channels; describes = d.describes; lack = subst (λ (xs : List (Option Gtids)). HasLack b xs name missing) d.says lack }
+pub lack_refused : (terms : Terms) (text : List ℕ) (b : BundleValue) (executed : List (Option Gtids)) (notes name : List ℕ) (missing : Gtids) → IsDescribed terms text b executed notes → HasLack b executed name missing → HasMore terms name missing text
+lack_refused terms text b executed notes name missing d lack = record { bundle = b; notes = notes; logs = d.channels; describes = d.describes; lack = subst (λ (xs : List (Option Gtids)). HasLack b xs name missing) d.says lack }
 
-too_large : (grants : Grants) (fault : SetFault) (text : List ℕ) (b : BundleValue) (executed : List (Option Gtids)) (notes : List ℕ) → IsDescribed grants text b executed notes → IsFullAt fault b executed → IsFull grants fault text
-too_large grants fault text b executed notes d full = InLack (record { bundle = b; notes = notes; logs = d.channels; describes = d.describes; full = subst (IsFullAt fault b) d.says full })
+too_large : (terms : Terms) (fault : SetFault) (text : List ℕ) (b : BundleValue) (executed : List (Option Gtids)) (notes : List ℕ) → IsDescribed terms text b executed notes → IsFullAt fault b executed → IsFull terms fault text
+too_large terms fault text b executed notes d full = InLack (record { bundle = b; notes = notes; logs = d.channels; describes = d.describes; full = subst (IsFullAt fault b) d.says full })
 
-pub lack_not_made : (grants : Grants) (fault : SetFault) (text : List ℕ) (b : BundleValue) (executed : List (Option Gtids)) (notes : List ℕ) → IsDescribed grants text b executed notes → HasFullLack fault b executed → IsNoOwn grants (faults.Set fault) text
-lack_not_made grants Memory text b executed notes d full = tt
-lack_not_made grants PoolFull text b executed notes d full = too_large grants PoolFull text b executed notes d full
-lack_not_made grants SourcesFull text b executed notes d full = too_large grants SourcesFull text b executed notes d full
+pub lack_not_made : (terms : Terms) (fault : SetFault) (text : List ℕ) (b : BundleValue) (executed : List (Option Gtids)) (notes : List ℕ) → IsDescribed terms text b executed notes → HasFullLack fault b executed → IsNoOwn terms (faults.Set fault) text
+lack_not_made terms Memory text b executed notes d full = tt
+lack_not_made terms PoolFull text b executed notes d full = too_large terms PoolFull text b executed notes d full
+lack_not_made terms SourcesFull text b executed notes d full = too_large terms SourcesFull text b executed notes d full
 
 -- ---- the head
 
@@ -384,8 +392,8 @@ none_said b n executed journal says brings = absurd (let bad : None ≡ Some (So
 any_version : (bytes : List ℕ) (b : BundleValue) → WritesBundleBy (Only Three) bytes b → WritesBundle bytes b
 any_version bytes b w = record { lines = w.lines; parts = w.parts; fit = w.fit; written = (w.written.0, refl, w.written.2) }
 
-pub head_found : (grants : Grants) (text head plain notes rest : List ℕ) (passed_over : Bool) (b : BundleValue) → HasHead grants text head plain passed_over rest → rest ≡ [] → notes ≡ [] → WritesBundleBy (Only Three) (plain ++ end_for rest) b → ImportsBundle grants text b notes
-head_found grants text head plain notes rest passed_over b h nothing silent writes = record {
+pub head_found : (terms : Terms) (text head plain notes rest : List ℕ) (passed_over : Bool) (b : BundleValue) → HasHead terms.grants text head plain passed_over rest → rest ≡ [] → notes ≡ [] → WritesBundleBy (Only Three) (plain ++ end_for rest) b → ImportsBundle terms text b notes
+head_found terms text head plain notes rest passed_over b h nothing silent writes = record {
   channels = [];
   describes = record {
     head = head;
@@ -395,7 +403,7 @@ head_found grants text head plain notes rest passed_over b h nothing silent writ
     plain_head = h.plain_head;
     front = head;
     written = plain;
-    corresponds = stands_none grants head plain;
+    corresponds = stands_none terms head plain;
     tail = rest;
     ends = Nowhere nothing;
     parts = h.cut.parts;
@@ -408,8 +416,8 @@ head_found grants text head plain notes rest passed_over b h nothing silent writ
   within = none_said b;
 }
 
-pub head_refused : (grants : Grants) (fault found : JournalFault) (text head plain rest : List ℕ) (passed_over : Bool) (h : HasHead grants text head plain passed_over rest) → IsHeadRefused fault (plain ++ end_for rest) → found ≡ fault_in_head h.plain_head.lines fault → IsNoOwn grants found text
-head_refused grants fault found text head plain rest passed_over h stops is = head_at grants found text (record {
+pub head_refused : (terms : Terms) (fault found : JournalFault) (text head plain rest : List ℕ) (passed_over : Bool) (h : HasHead terms.grants text head plain passed_over rest) → IsHeadRefused fault (plain ++ end_for rest) → found ≡ fault_in_head h.plain_head.lines fault → IsNoOwn terms found text
+head_refused terms fault found text head plain rest passed_over h stops is = head_at terms found text (record {
   head = head;
   rest = rest;
   cut = h.cut;
@@ -426,51 +434,10 @@ end_more [] more = absurd (more refl)
 end_more (b ∷ bs) more = refl
 
 -- the reader of channels stops in the head
-pub start_refused : (grants : Grants) (start : BundleValue) (fault found : JournalFault) (text head plain rest : List ℕ) (passed_over : Bool) (h : HasHead grants text head plain passed_over rest) → rest ≢ [] → IsStart plain start → StopsAt fault plain → found ≡ fault_in_head h.plain_head.lines fault → IsNoOwn grants found text
-start_refused grants start fault found text head plain rest passed_over h more has stops is =
-    head_refused grants fault found text head plain rest passed_over h
+pub start_refused : (terms : Terms) (start : BundleValue) (fault found : JournalFault) (text head plain rest : List ℕ) (passed_over : Bool) (h : HasHead terms.grants text head plain passed_over rest) → rest ≢ [] → IsStart plain start → StopsAt fault plain → found ≡ fault_in_head h.plain_head.lines fault → IsNoOwn terms found text
+start_refused terms start fault found text head plain rest passed_over h more has stops is =
+    head_refused terms fault found text head plain rest passed_over h
     (subst (λ (xs : List ℕ). IsHeadRefused fault (plain ++ xs)) (sym (end_more rest more)) (head_stops fault plain done_line start (any_version (plain ++ done_line) start has) stops)) is
 
 pub start_of : (plain rest : List ℕ) (start : BundleValue) → rest ≢ [] → WritesBundleBy (Only Three) (plain ++ end_for rest) start → IsStart plain start
 start_of plain rest start more writes = subst (λ (xs : List ℕ). WritesBundleBy (Only Three) (plain ++ xs) start) (end_more rest more) writes
-
--- ---- a log
-
-pub cant_bring : (grants : Grants) (start : BundleValue) (log before : List ℕ) (fault : JournalFault) (found : ChannelFault) → CantJoin grants start log before fault → IsJournalFault start.start.schema log fault found → CantFeedLog grants start log before found
-cant_bring grants start log before fault (channels.Own other) cant h = absurd h
-cant_bring grants start log before fault channels.Unknown cant h = absurd h
-cant_bring grants start log before fault (channels.Log other) cant h = absurd h
-cant_bring grants start log before fault (channels.Table at) cant h = (fault, h.0, cant, h.1)
-cant_bring grants start log before fault (channels.Journal other) cant h =
-    subst (λ (f : JournalFault). CantJoin grants start log before f × (IsOfLine f → HasNoOther start.start.schema log)) (sym h.0) (cant, h.1)
-
--- ---- a channel
-
-pub had_executed : (grants : Grants) (line own : List ℕ) (word : Option (List ℕ)) (executed : Option Gtids) → IsCutLine line own word → IsWordRead grants word executed → HadExecuted grants line own executed
-had_executed grants line own (Some word) (Some executed) cut reads = (word, cut, reads)
-had_executed grants line own None None cut reads = (cut, reads)
-had_executed grants line own (Some word) None cut reads = absurd reads
-had_executed grants line own None (Some executed) cut reads = absurd reads
-
-pub word_refused : (grants : Grants) (start : BundleValue) (line log before own : List ℕ) (word : Option (List ℕ)) (fault : ChannelFault) → IsLineTaken line before own word → IsWordRefused grants word fault → CantFeedChannel grants start line log before fault
-word_refused grants start line log before own (Some word) (channels.Own fault) t denied = NotSet own word t denied
-word_refused grants start line log before own None channels.Unknown t denied = (own, t, denied)
-word_refused grants start line log before own (Some word) channels.Unknown t denied = absurd denied
-word_refused grants start line log before own (Some word) (channels.Log fault) t denied = absurd denied
-word_refused grants start line log before own (Some word) (channels.Table at) t denied = absurd denied
-word_refused grants start line log before own (Some word) (channels.Journal fault) t denied = absurd denied
-word_refused grants start line log before own None (channels.Own fault) t denied = absurd denied
-word_refused grants start line log before own None (channels.Log fault) t denied = absurd denied
-word_refused grants start line log before own None (channels.Table at) t denied = absurd denied
-word_refused grants start line log before own None (channels.Journal fault) t denied = absurd denied
-
-pub log_refused : (grants : Grants) (start : BundleValue) (line log before own : List ℕ) (executed : Option Gtids) (fault : ChannelFault) → IsSaidTaken grants line before own executed → CantFeedLog grants start log (before ++ with_line_feed own) fault → CantFeedChannel grants start line log before fault
-log_refused grants start line log before own executed (channels.Own fault) t denied = absurd denied
-log_refused grants start line log before own executed channels.Unknown t denied = absurd denied
-log_refused grants start line log before own executed (channels.Log fault) t denied = record { own = own; executed = executed; line_taken = t; cant = denied }
-log_refused grants start line log before own executed (channels.Table at) t denied = record { own = own; executed = executed; line_taken = t; cant = denied }
-log_refused grants start line log before own executed (channels.Journal fault) t denied = record { own = own; executed = executed; line_taken = t; cant = denied }
-
-pub part_refused : (grants : Grants) (start : BundleValue) (line before own : List ℕ) (executed : Option Gtids) (fault : SetFault) → IsSaidTaken grants line before own executed → IsPartFault fault start.opened executed → CantTake grants start line before (faults.Set fault)
-part_refused grants start line before own None fault t denied = NoMemory (ap (λ (f : SetFault). faults.Set f) denied)
-part_refused grants start line before own (Some executed) fault t denied = FullPart own executed fault t denied refl

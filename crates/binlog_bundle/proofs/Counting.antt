@@ -37,6 +37,7 @@ use Rattle.binlog_bundle.specs.Lines.{with_line_feed, is_channel}
 use Rattle.binlog_bundle.specs.Executed.{HadExecuted}
 use Rattle.binlog_bundle.specs.Bundles.{done_line, ImportedLog, journal_text, IsStart, IsImported}
 use Rattle.binlog_bundle.specs.declared.grants.Grants.{Grants}
+use Rattle.binlog_bundle.specs.Logs.{Terms}
 
 -- ---- lines that begin with `channel `
 
@@ -106,13 +107,13 @@ channel_counts own journal ys rest e h =
     let m : lines_with true ys + 1 ≤ lines_with true ((codes "channel " ++ rest) ++ 10 ∷ (journal ++ ys)) = omega (arith, h, k) in
     subst (λ (xs : List ℕ). lines_with true ys + 1 ≤ lines_with true xs) (sym is) m
 
-channels_count : (grants : Grants) (plain : List ℕ) (cs : List ImportedLog) (ys : List ℕ) → AllByRecursion (IsImported grants plain) cs → length cs ≤ lines_with true (flat_map journal_text cs ++ ys)
-channels_count grants plain [] ys all = least (lines_with true ys)
-channels_count grants plain (c ∷ cs) ys all =
-    let h = channels_count grants plain cs ys all.1 in
-    let own = own_begins grants c.line c.own c.executed all.0.channel all.0.says in
-    let ends = journal_ends Three _ all.0.imports.journal in
-    let behind = journal_behind c.journal ends.0 (flat_map journal_text cs ++ ys) (all.0.imports.spells ∙ ends.1) in
+channels_count : (terms : Terms) (plain : List ℕ) (cs : List ImportedLog) (ys : List ℕ) → AllByRecursion (IsImported terms plain) cs → length cs ≤ lines_with true (flat_map journal_text cs ++ ys)
+channels_count terms plain [] ys all = least (lines_with true ys)
+channels_count terms plain (c ∷ cs) ys all =
+    let h = channels_count terms plain cs ys all.1 in
+    let own = own_begins terms.grants c.line c.own c.executed all.0.channel all.0.says in
+    let ends = journal_ends Three _ (record { previous = all.0.imports.previous; entries = all.0.imports.entries }) in
+    let behind = journal_behind c.journal ends.0 (flat_map journal_text cs ++ ys) (all.0.imports.writes.spells ∙ ends.1) in
     let k = channel_counts c.own c.journal (flat_map journal_text cs ++ ys) own.0 own.1 behind in
     let m : suc (length cs) ≤ lines_with true (journal_text c ++ (flat_map journal_text cs ++ ys)) = omega (arith, h, k) in
     subst (λ (xs : List ℕ). suc (length cs) ≤ lines_with true xs) (sym (append_assoc (journal_text c) (flat_map journal_text cs) ys)) m
@@ -371,14 +372,14 @@ plain_lines plain start h =
           ),
     )
 
-pub as_many_journals : (grants : Grants) (plain : List ℕ) (cs : List ImportedLog) (tail : List ℕ) (b : BundleValue) → AllByRecursion (IsImported grants plain) cs → WritesBundle ((plain ++ flat_map journal_text cs) ++ tail) b → length cs ≤ length b.journals
-as_many_journals grants plain [] tail b all w = least (length b.journals)
-as_many_journals grants plain (c ∷ cs) tail b all w =
+pub as_many_journals : (terms : Terms) (plain : List ℕ) (cs : List ImportedLog) (tail : List ℕ) (b : BundleValue) → AllByRecursion (IsImported terms plain) cs → WritesBundle ((plain ++ flat_map journal_text cs) ++ tail) b → length cs ≤ length b.journals
+as_many_journals terms plain [] tail b all w = least (length b.journals)
+as_many_journals terms plain (c ∷ cs) tail b all w =
     let head = plain_lines plain all.0.start all.0.has in
     let front = behind_lines head.0 (flat_map journal_text (c ∷ cs) ++ tail) in
     let P : List ℕ → Type 0 = λ xs. lines_with true (flat_map journal_text (c ∷ cs) ++ tail) ≤ lines_with true (xs ++ (flat_map journal_text (c ∷ cs) ++ tail)) in
     let whole = subst P (sym head.1) front in
-    let rest = channels_count grants plain (c ∷ cs) tail all in
+    let rest = channels_count terms plain (c ∷ cs) tail all in
     let is = append_assoc plain (flat_map journal_text (c ∷ cs)) tail in
     let most = journals_counted _ b (subst (λ (xs : List ℕ). WritesBundle xs b) is w) in
     omega (arith, whole, rest, most)

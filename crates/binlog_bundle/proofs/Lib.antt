@@ -1,5 +1,6 @@
 pub mod Feeding
 pub mod Cutting
+pub mod Bringing
 pub mod Coming
 pub mod OwnLines
 pub mod Heading

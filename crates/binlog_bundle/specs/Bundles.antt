@@ -1,4 +1,4 @@
--- A bundle whose journals are the texts of logs.
+-- A bundle whose journals are logs: their texts, or what is read elsewhere by the names of its channels.
 use Rattle.std.specs.Prelude.{◌≡◌, ◌≤◌, ℕ, Bool, true, List, [], ◌++◌, length, map, codes, Option}
 use Rattle.std.specs.List.{flat_map, AllByRecursion}
 use Rattle.gtid_set.specs.Sets.{Gtids}
@@ -6,13 +6,13 @@ use Rattle.txn_journal.specs.BundleStates.{BundleValue}
 use Rattle.txn_journal.specs.BundleText.{WritesBundle, WritesBundleBy}
 use Rattle.txn_journal.specs.declared.lines.Due.TheVariants.{Only}
 use Rattle.txn_journal.specs.declared.lines.Version.TheVariants.{Three}
-use Rattle.binlog_entries.specs.Imports.{Imports}
 use Rattle.binlog_bundle.specs.Lines.{with_line_feed, is_channel, HasNoOwn}
 use Rattle.binlog_bundle.specs.Notes.{name_in, notes_for}
 use Rattle.binlog_bundle.specs.Assumed.{assumed_of, IsSaidBefore}
 use Rattle.binlog_bundle.specs.Heads.{IsPlainHead}
 use Rattle.binlog_bundle.specs.Executed.{HadExecuted, AreWithin}
-use Rattle.binlog_bundle.specs.declared.grants.Grants.{Grants}
+use Rattle.binlog_bundle.specs.Logs.{Terms, BringsJournal}
+use Rattle.binlog_bundle.specs.declared.assumed.AssumedLine.{AssumedLine}
 
 abbrev pub done_line : List ℕ
 done_line = with_line_feed (codes "done")
@@ -22,8 +22,8 @@ pub data BeginsLast (text : List ℕ) : Type 0 where
   Nowhere : text ≡ [] → BeginsLast text
   Last : (after : List ℕ) → text ≡ done_line ++ after → BeginsLast text
 
--- A channel's line, that line in the bundle, and what it says was executed; the text of its log, that of the journal which the log
--- describes, and the places of the tables with a key that isn't compared by bytes; and what is assumed and noted of the channel.
+-- A channel's line, that line in the bundle, and what it says was executed; the text behind the line, the text of the journal of the channel's
+-- log, and the places of the tables with a key that isn't compared by bytes; and what is assumed and noted of the channel.
 pub record ImportedLog : Type 0 where
   pub line : List ℕ
   pub own : List ℕ
@@ -31,7 +31,7 @@ pub record ImportedLog : Type 0 where
   pub log : List ℕ
   pub journal : List ℕ
   pub varied : List ℕ
-  pub assumed : List (List ℕ)
+  pub assumed : List AssumedLine
   pub notes : List ℕ
 
 abbrev pub log_text : ImportedLog → List ℕ
@@ -44,25 +44,26 @@ journal_text c = with_line_feed c.own ++ c.journal
 abbrev pub IsStart : List ℕ → BundleValue → Type 0
 IsStart plain start = WritesBundleBy (Only Three) (plain ++ done_line) start
 
--- what is assumed of a channel that has this line in its bundle, by what its server had executed; the bundle is the one that the head begins
-abbrev pub assumed_for : BundleValue → List ℕ → Option Gtids → List (List ℕ)
-assumed_for start line executed = assumed_of (name_in line) start.opened executed
+-- what is assumed of a channel that has this line in its bundle, by what its server had executed, and by where its log comes from; the bundle
+-- is the one that the head begins
+abbrev pub assumed_for : Terms → BundleValue → List ℕ → Option Gtids → List AssumedLine
+assumed_for terms start line executed = assumed_of (name_in line) start.opened executed (terms.origin.is_unchecked (name_in line))
 
--- the log describes the journal, whose entries change the tables of this head; and the line says what was executed
-pub record IsImported (grants : Grants) (plain : List ℕ) (c : ImportedLog) : Type 0 where
+-- the channel has a log, which is the journal, whose entries change the tables of this head; and the line says what was executed
+pub record IsImported (terms : Terms) (plain : List ℕ) (c : ImportedLog) : Type 0 where
   pub start : BundleValue
   pub has : IsStart plain start
   pub channel : is_channel c.line ≡ true
-  pub says : HadExecuted grants c.line c.own c.executed
+  pub says : HadExecuted terms.grants c.line c.own c.executed
   pub alone : HasNoOwn c.log
-  pub imports : Imports start.start.schema start.opened grants.bytes c.log c.journal c.varied
-  pub assumed_are : c.assumed ≡ assumed_for start c.own c.executed
+  pub imports : BringsJournal terms start (name_in c.own) c.log c.journal c.varied
+  pub assumed_are : c.assumed ≡ assumed_for terms start c.own c.executed
   pub notes_are : c.notes ≡ notes_for start c.own c.varied
 
--- The two texts have the same lines of channels, but for what was executed, and the log of each channel is in the one where the journal
--- that it describes is in the other. The head of the second is the plain one.
-pub record Corresponds (grants : Grants) (head plain : List ℕ) (channels : List ImportedLog) (text written : List ℕ) : Type 0 where
-  pub imported : AllByRecursion (IsImported grants plain) channels
+-- The two texts have the same lines of channels, but for what was executed. What is behind the line of each channel in the one is in the place
+-- of the channel's journal in the other. The head of the second is the plain one.
+pub record Corresponds (terms : Terms) (head plain : List ℕ) (channels : List ImportedLog) (text written : List ℕ) : Type 0 where
+  pub imported : AllByRecursion (IsImported terms plain) channels
   pub text_is : text ≡ head ++ flat_map log_text channels
   pub written_is : written ≡ plain ++ flat_map journal_text channels
 
@@ -71,21 +72,22 @@ abbrev pub said : List ImportedLog → List (Option Gtids)
 said channels = map (λ c. c.executed) channels
 
 -- what is assumed of all channels
-abbrev pub all_assumed : List ImportedLog → List (List ℕ)
+abbrev pub all_assumed : List ImportedLog → List AssumedLine
 all_assumed channels = flat_map (λ c. c.assumed) channels
 
--- The text is a bundle's but that the log of each channel is in the place of its journal, and that there are lines `unsupported ..` and what
+-- The text is a bundle's but for what is in the place of each channel's journal, and that there are lines `unsupported ..` and what
 -- was executed. Both end in the same last line, and before that the bundle has the lines of what is assumed: of its channels, and of its head, if
--- lines of that were passed over. Each log is what is between two lines of the bundle's own, so there is one way to read a text so.
-pub record DescribesBundle (grants : Grants) (text : List ℕ) (channels : List ImportedLog) (b : BundleValue) (notes : List ℕ) : Type 0 where
+-- lines of that were passed over. What is in the place of a journal is between two lines of the bundle's own, so there is one way to read a
+-- text so.
+pub record DescribesBundle (terms : Terms) (text : List ℕ) (channels : List ImportedLog) (b : BundleValue) (notes : List ℕ) : Type 0 where
   pub head : List ℕ
   pub plain : List ℕ
   pub passed_over : Bool
   pub alone : HasNoOwn head
-  pub plain_head : IsPlainHead grants head plain passed_over
+  pub plain_head : IsPlainHead terms.grants head plain passed_over
   pub front : List ℕ
   pub written : List ℕ
-  pub corresponds : Corresponds grants head plain channels front written
+  pub corresponds : Corresponds terms head plain channels front written
   pub tail : List ℕ
   pub ends : BeginsLast tail
   pub parts : text ≡ front ++ tail
@@ -96,8 +98,8 @@ pub record DescribesBundle (grants : Grants) (text : List ℕ) (channels : List 
 
 -- So it describes the bundle, which has a journal for each channel; and what each channel's server had executed, by the channel's line, lies in the
 -- opening set, in what was executed before the channel's journal, and in its entries.
-pub record ImportsBundle (grants : Grants) (text : List ℕ) (b : BundleValue) (notes : List ℕ) : Type 0 where
+pub record ImportsBundle (terms : Terms) (text : List ℕ) (b : BundleValue) (notes : List ℕ) : Type 0 where
   pub channels : List ImportedLog
-  pub describes : DescribesBundle grants text channels b notes
+  pub describes : DescribesBundle terms text channels b notes
   pub as_many : length channels ≤ length b.journals
   pub within : AreWithin b (said channels)

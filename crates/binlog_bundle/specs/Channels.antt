@@ -13,16 +13,20 @@ use Rattle.txn_journal.specs.BundleStates.{BundleValue}
 use Rattle.txn_journal.specs.BundleReading.{BundleProgress}
 use Rattle.txn_journal.specs.declared.fault.JournalFault.{JournalFault}
 use Rattle.txn_journal.specs.declared.fault.JournalFault.TheVariants as faults
-use Rattle.binlog_entries.specs.Imports.{Imports, IsNoImport}
+use Rattle.binlog_entries.specs.declared.import.ImportFault.TheVariants as imports
 use Rattle.binlog_bundle.specs.Lines.{with_line_feed, HasNoOwn, BeginsOwn, IsCut}
 use Rattle.binlog_bundle.specs.Tables.{HasOther, HasNoOther}
-use Rattle.binlog_bundle.specs.Notes.{notes_for}
+use Rattle.binlog_bundle.specs.Notes.{name_in, notes_for}
 use Rattle.binlog_bundle.specs.Heads.{IsPlainHead}
 use Rattle.binlog_bundle.specs.Executed.{IsCutLine, HadExecuted, IsNoSet}
 use Rattle.binlog_bundle.specs.Bundles.{ImportedLog, IsStart, Corresponds, said, all_assumed, assumed_for, DescribesBundle}
 use Rattle.binlog_bundle.specs.Refused.{IsFed, IsTaken, StopsAt, IsOfLine}
 use Rattle.binlog_bundle.specs.declared.channels.ImportProgress.{ImportProgress}
+use Rattle.binlog_bundle.specs.Logs.{Terms, BringsJournal, BringsNone}
+use Rattle.binlog_bundle.specs.declared.assumed.AssumedLine.{AssumedLine}
 use Rattle.binlog_bundle.specs.declared.grants.Grants.{Grants}
+use Rattle.binlog_bundle.specs.declared.fault.SourceFault.{SourceFault}
+use Rattle.binlog_bundle.specs.declared.fault.SourceFault.TheVariants as sources
 use Rattle.binlog_bundle.specs.declared.fault.ChannelFault.{ChannelFault}
 use Rattle.binlog_bundle.specs.declared.fault.ChannelFault.TheVariants as channels
 
@@ -37,16 +41,16 @@ HasRead progress bytes = IsFed (bundle_reading progress.reader) bytes
 
 -- All but what is left of the text has come, and the reader of bundles has read the plain head, which begins this bundle, and the journals in the
 -- place of the logs; this is what the channels' lines say was executed, and what is assumed and noted.
-pub record HasCome (grants : Grants) (start : BundleValue) (text left : List ℕ) (progress : ImportProgress) : Type 0 where
+pub record HasCome (terms : Terms) (start : BundleValue) (text left : List ℕ) (progress : ImportProgress) : Type 0 where
   pub head : List ℕ
   pub plain : List ℕ
   pub alone : HasNoOwn head
-  pub plain_head : IsPlainHead grants head plain progress.passed_over
+  pub plain_head : IsPlainHead terms.grants head plain progress.passed_over
   pub has : IsStart plain start
   pub channels : List ImportedLog
   pub front : List ℕ
   pub written : List ℕ
-  pub corresponds : Corresponds grants head plain channels front written
+  pub corresponds : Corresponds terms head plain channels front written
   pub parts : text ≡ front ++ left
   pub begins : BeginsOwn left
   pub fed : HasRead progress written
@@ -60,10 +64,10 @@ pub record HasCome (grants : Grants) (start : BundleValue) (text left : List ℕ
 abbrev pub IsFedWith : BundleProgress → BundleProgress → List ℕ → Type 0
 IsFedWith old new bytes = (before : List ℕ) → IsFed old before → IsFed new (before ++ bytes)
 
--- the journal that a log describes has come
-pub record FeedsLog (grants : Grants) (start : BundleValue) (log : List ℕ) (old new : BundleProgress) (varied : List ℕ) : Type 0 where
+-- the journal of a channel's log has come
+pub record FeedsLog (terms : Terms) (start : BundleValue) (name log : List ℕ) (old new : BundleProgress) (varied : List ℕ) : Type 0 where
   pub journal : List ℕ
-  pub imports : Imports start.start.schema start.opened grants.bytes log journal varied
+  pub imports : BringsJournal terms start name log journal varied
   pub fed : IsFedWith old new journal
 
 -- this is added to what was executed
@@ -71,32 +75,42 @@ abbrev pub IsSaid : ImportProgress → ImportProgress → Option Gtids → Type 
 IsSaid old new executed = new.executed.items ≡ old.executed.items ++ executed ∷ []
 
 -- these are added to what is assumed
-abbrev pub IsAssumed : ImportProgress → ImportProgress → List (List ℕ) → Type 0
+abbrev pub IsAssumed : ImportProgress → ImportProgress → List AssumedLine → Type 0
 IsAssumed old new lines = new.assumed.items ≡ old.assumed.items ++ lines
 
 -- these are added to the notes
 abbrev pub IsNoted : ImportProgress → ImportProgress → List ℕ → Type 0
 IsNoted old new notes = new.notes.items ≡ old.notes.items ++ notes
 
--- the line of a channel has come, and the journal that its log describes; this is added to what was executed, is assumed and noted
-pub record FeedsChannel (grants : Grants) (start : BundleValue) (line log : List ℕ) (old new : ImportProgress) : Type 0 where
+-- the line of a channel has come, and the journal of its log; this is added to what was executed, is assumed and noted
+pub record FeedsChannel (terms : Terms) (start : BundleValue) (line log : List ℕ) (old new : ImportProgress) : Type 0 where
   pub own : List ℕ
   pub executed : Option Gtids
   pub varied : List ℕ
-  pub says : HadExecuted grants line own executed
+  pub says : HadExecuted terms.grants line own executed
   pub middle : BundleProgress
   pub fed : IsFedWith (bundle_reading old.reader) middle (with_line_feed own)
-  pub brings : FeedsLog grants start log middle (bundle_reading new.reader) varied
+  pub brings : FeedsLog terms start (name_in own) log middle (bundle_reading new.reader) varied
   pub said : IsSaid old new executed
-  pub assumed : IsAssumed old new (assumed_for start own executed)
+  pub assumed : IsAssumed old new (assumed_for terms start own executed)
   pub noted : IsNoted old new (notes_for start own varied)
   pub same_head : new.passed_over ≡ old.passed_over
+
+-- why the channel of this name isn't read, if it has no log for this reason; or out of memory
+abbrev pub IsNotHad : List ℕ → SourceFault → ChannelFault → Type 0
+IsNotHad name (sources.Text fault) (channels.Log (imports.Text other)) = other ≡ fault
+IsNotHad name (sources.Logless why) (channels.Logless other) = other ≡ why
+IsNotHad name (sources.File fault) (channels.Binlog channel other) = (channel.items ≡ name) × (other ≡ fault)
+IsNotHad name (sources.File fault) (channels.Own other) = other ≡ faults.Set Memory
+IsNotHad name _ _ = ⊥
 
 -- It is this fault, and if that names a line, no line of the log maps a table that is none of these; or one does, and it is the first.
 abbrev pub IsJournalFault : List Table → List ℕ → JournalFault → ChannelFault → Type 0
 IsJournalFault tables log fault (channels.Own other) = ⊥
 IsJournalFault tables log fault channels.Unknown = ⊥
 IsJournalFault tables log fault (channels.Log other) = ⊥
+IsJournalFault tables log fault (channels.Logless why) = ⊥
+IsJournalFault tables log fault (channels.Binlog channel other) = ⊥
 IsJournalFault tables log fault (channels.Table at) = IsOfLine fault × HasOther tables at log
 IsJournalFault tables log fault (channels.Journal other) = (other ≡ fault) × (IsOfLine fault → HasNoOther tables log)
 
@@ -130,40 +144,44 @@ pub data CantTake (grants : Grants) (start : BundleValue) (line before : List �
   NotSet : (own word : List ℕ) → IsLineTaken line before own (Some word) → IsNoSet word fault → CantTake grants start line before fault
   FullPart : (own : List ℕ) (executed : Gtids) (full : SetFault) → IsSaidTaken grants line before own (Some executed) → IsFaultOf full (set.difference start.opened executed) → fault ≡ faults.Set full → CantTake grants start line before fault
 
--- the log describes a journal that is refused after these bytes
-pub record CantJoin (grants : Grants) (start : BundleValue) (log before : List ℕ) (fault : JournalFault) : Type 0 where
+-- the log of the channel of this name is a journal that is refused after these bytes
+pub record CantJoin (terms : Terms) (start : BundleValue) (name log before : List ℕ) (fault : JournalFault) : Type 0 where
   pub journal : List ℕ
   pub varied : List ℕ
-  pub imports : Imports start.start.schema start.opened grants.bytes log journal varied
+  pub imports : BringsJournal terms start name log journal varied
   pub stops : StopsAt fault (before ++ journal)
 
--- why the log of a channel isn't taken after these bytes
-abbrev pub CantFeedLog : Grants → BundleValue → List ℕ → List ℕ → ChannelFault → Type 0
-CantFeedLog grants start log before (channels.Own fault) = ⊥
-CantFeedLog grants start log before channels.Unknown = ⊥
-CantFeedLog grants start log before (channels.Log fault) = IsNoImport start.start.schema start.opened grants.bytes fault log
-CantFeedLog grants start log before (channels.Table at) = (fault : JournalFault) × IsOfLine fault × CantJoin grants start log before fault × HasOther start.start.schema at log
-CantFeedLog grants start log before (channels.Journal fault) = CantJoin grants start log before fault × (IsOfLine fault → HasNoOther start.start.schema log)
+-- why the log of the channel of this name isn't taken after these bytes; or out of memory
+abbrev pub CantFeedLog : Terms → BundleValue → List ℕ → List ℕ → List ℕ → ChannelFault → Type 0
+CantFeedLog terms start name log before (channels.Own fault) = fault ≡ faults.Set Memory
+CantFeedLog terms start name log before channels.Unknown = ⊥
+CantFeedLog terms start name log before (channels.Log fault) = BringsNone terms start name log fault
+CantFeedLog terms start name log before (channels.Table at) = (fault : JournalFault) × IsOfLine fault × CantJoin terms start name log before fault × HasOther start.start.schema at log
+CantFeedLog terms start name log before (channels.Journal fault) = CantJoin terms start name log before fault × (IsOfLine fault → HasNoOther start.start.schema log)
+CantFeedLog terms start name log before (channels.Logless why) = terms.origin.refuses name log start.opened (sources.Logless why)
+CantFeedLog terms start name log before (channels.Binlog channel fault) = (channel.items ≡ name) × terms.origin.refuses name log start.opened (sources.File fault)
 
 -- its line is taken before
-pub record CantBring (grants : Grants) (start : BundleValue) (line log before : List ℕ) (fault : ChannelFault) : Type 0 where
+pub record CantBring (terms : Terms) (start : BundleValue) (line log before : List ℕ) (fault : ChannelFault) : Type 0 where
   pub own : List ℕ
   pub executed : Option Gtids
-  pub line_taken : IsSaidTaken grants line before own executed
-  pub cant : CantFeedLog grants start log (before ++ with_line_feed own) fault
+  pub line_taken : IsSaidTaken terms.grants line before own executed
+  pub cant : CantFeedLog terms start (name_in own) log (before ++ with_line_feed own) fault
 
 -- why they have not come, after these bytes
-abbrev pub CantFeedChannel : Grants → BundleValue → List ℕ → List ℕ → List ℕ → ChannelFault → Type 0
-CantFeedChannel grants start line log before (channels.Own fault) = CantTake grants start line before fault
-CantFeedChannel grants start line log before channels.Unknown = (own : List ℕ) × IsLineTaken line before own None × (grants.executed_unknown ≡ false)
-CantFeedChannel grants start line log before (channels.Log fault) = CantBring grants start line log before (channels.Log fault)
-CantFeedChannel grants start line log before (channels.Table at) = CantBring grants start line log before (channels.Table at)
-CantFeedChannel grants start line log before (channels.Journal fault) = CantBring grants start line log before (channels.Journal fault)
+abbrev pub CantFeedChannel : Terms → BundleValue → List ℕ → List ℕ → List ℕ → ChannelFault → Type 0
+CantFeedChannel terms start line log before (channels.Own fault) = CantTake terms.grants start line before fault
+CantFeedChannel terms start line log before channels.Unknown = (own : List ℕ) × IsLineTaken line before own None × (terms.grants.executed_unknown ≡ false)
+CantFeedChannel terms start line log before (channels.Log fault) = CantBring terms start line log before (channels.Log fault)
+CantFeedChannel terms start line log before (channels.Table at) = CantBring terms start line log before (channels.Table at)
+CantFeedChannel terms start line log before (channels.Journal fault) = CantBring terms start line log before (channels.Journal fault)
+CantFeedChannel terms start line log before (channels.Logless why) = CantBring terms start line log before (channels.Logless why)
+CantFeedChannel terms start line log before (channels.Binlog channel fault) = CantBring terms start line log before (channels.Binlog channel fault)
 
 -- ---- all channels
 
 -- the text describes the bundle, and this is what the channels' lines say was executed
-pub record IsDescribed (grants : Grants) (text : List ℕ) (b : BundleValue) (executed : List (Option Gtids)) (notes : List ℕ) : Type 0 where
+pub record IsDescribed (terms : Terms) (text : List ℕ) (b : BundleValue) (executed : List (Option Gtids)) (notes : List ℕ) : Type 0 where
   pub channels : List ImportedLog
-  pub describes : DescribesBundle grants text channels b notes
+  pub describes : DescribesBundle terms text channels b notes
   pub says : executed ≡ said channels

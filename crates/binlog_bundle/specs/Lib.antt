@@ -4,6 +4,8 @@ pub mod Notes
 pub mod Assumed
 pub mod Heads
 pub mod Executed
+pub mod Logs
+pub mod Files
 pub mod Bundles
 pub mod Refused
 pub mod Channels

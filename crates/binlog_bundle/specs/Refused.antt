@@ -14,7 +14,6 @@ use Rattle.txn_journal.specs.Words.{BeginsWithLine}
 use Rattle.txn_journal.specs.declared.fault.Cause.TheVariants as causes
 use Rattle.txn_journal.specs.declared.fault.JournalFault.{JournalFault}
 use Rattle.txn_journal.specs.declared.fault.JournalFault.TheVariants as faults
-use Rattle.binlog_entries.specs.Imports.{Imports, IsNoImport}
 use Rattle.binlog_entries.specs.declared.import.ImportFault.{ImportFault}
 use Rattle.binlog_bundle.specs.Lines.{with_line_feed, is_channel, lines_in, HasNoOwn, BeginsOwn, IsCut}
 use Rattle.binlog_bundle.specs.Tables.{HasOther, HasNoOther}
@@ -22,7 +21,10 @@ use Rattle.binlog_bundle.specs.Heads.{IsPlainHead, IsUnsupported, place_of}
 use Rattle.binlog_bundle.specs.Executed.{IsCutLine, HadExecuted, HasLack, IsFullAt}
 use Rattle.binlog_bundle.specs.Assumed.{IsAssumeText, IsSaidBefore}
 use Rattle.binlog_bundle.specs.Bundles.{done_line, ImportedLog, IsStart, Corresponds, said, all_assumed, DescribesBundle}
-use Rattle.binlog_bundle.specs.declared.grants.Grants.{Grants}
+use Rattle.binlog_bundle.specs.Logs.{Terms, BringsJournal, BringsNone}
+use Rattle.binlog_bundle.specs.Notes.{name_in}
+use Rattle.binlog_bundle.specs.declared.fault.SourceFault.{SourceFault}
+use Rattle.binlog_bundle.specs.declared.fault.SourceFault.TheVariants as sources
 use Rattle.binlog_bundle.specs.declared.fault.BundleFault.{BundleFault}
 use Rattle.binlog_bundle.specs.declared.fault.BundleFault.TheVariants as bundles
 use Rattle.binlog_bundle.specs.declared.fault.ChannelFault.{ChannelFault}
@@ -52,6 +54,8 @@ channel_fault_at channels.Unknown line = bundles.Unknown line
 channel_fault_at (channels.Log fault) line = bundles.Log line fault
 channel_fault_at (channels.Table at) line = bundles.Table line at
 channel_fault_at (channels.Journal fault) line = bundles.Journal (fault_at_line fault line)
+channel_fault_at (channels.Logless why) line = bundles.Logless line why
+channel_fault_at (channels.Binlog channel fault) line = bundles.Binlog channel fault
 
 -- ---- the reader of bundles
 
@@ -115,44 +119,44 @@ end_for [] = []
 end_for (b ∷ bs) = done_line
 
 -- The plain head, with the end of a bundle after it if anything comes, is none of version 3; the fault is counted over the lines of the head.
-pub record IsNoHead (grants : Grants) (fault : JournalFault) (text : List ℕ) : Type 0 where
+pub record IsNoHead (terms : Terms) (fault : JournalFault) (text : List ℕ) : Type 0 where
   pub head : List ℕ
   pub rest : List ℕ
   pub cut : IsCut text head rest
   pub plain : List ℕ
   pub passed_over : Bool
-  pub plain_head : IsPlainHead grants head plain passed_over
+  pub plain_head : IsPlainHead terms.grants head plain passed_over
   pub own : JournalFault
   pub stops : IsHeadRefused own (plain ++ end_for rest)
   pub at : fault ≡ fault_in_head plain_head.lines own
 
 -- a line of the head isn't granted, and the first such line names this
-pub record HasUnsupported (grants : Grants) (what text : List ℕ) : Type 0 where
+pub record HasUnsupported (terms : Terms) (what text : List ℕ) : Type 0 where
   pub head : List ℕ
   pub rest : List ℕ
   pub cut : IsCut text head rest
-  pub first : IsUnsupported grants what head
+  pub first : IsUnsupported terms.grants what head
 
 -- All but what is left of the text has come: the head and whole channels, and nothing is wrong with them if the journals are in the place
 -- of the logs.
-pub record HasTaken (grants : Grants) (head plain front written left text : List ℕ) : Type 0 where
+pub record HasTaken (terms : Terms) (head plain front written left text : List ℕ) : Type 0 where
   pub alone : HasNoOwn head
   pub passed_over : Bool
-  pub plain_head : IsPlainHead grants head plain passed_over
+  pub plain_head : IsPlainHead terms.grants head plain passed_over
   pub channels : List ImportedLog
-  pub corresponds : Corresponds grants head plain channels front written
+  pub corresponds : Corresponds terms head plain channels front written
   pub parts : text ≡ front ++ left
   pub begins : BeginsOwn left
   pub taken : IsTaken written
 
 -- The line of a channel comes next, which, without what was executed, is none of a bundle's there; it has this number.
-pub record IsNoLine (grants : Grants) (fault : JournalFault) (line : ℕ) (text : List ℕ) : Type 0 where
+pub record IsNoLine (terms : Terms) (fault : JournalFault) (line : ℕ) (text : List ℕ) : Type 0 where
   pub head : List ℕ
   pub plain : List ℕ
   pub front : List ℕ
   pub written : List ℕ
   pub left : List ℕ
-  pub come : HasTaken grants head plain front written left text
+  pub come : HasTaken terms head plain front written left text
   pub next : List ℕ
   pub after : List ℕ
   pub begins : BeginsWithLine left next after
@@ -169,13 +173,13 @@ IsLast last behind = (last ≡ done_line) ⊎ ((last ≡ []) × (behind ≡ []))
 
 -- No further channel comes, and the lines of what is assumed, or the last line behind them, are refused; this is the number of the last line.
 -- (Where a head has a line `assume ..` of its own, those of what is granted may not follow it.)
-pub record IsNoLast (grants : Grants) (fault : JournalFault) (line : ℕ) (text : List ℕ) : Type 0 where
+pub record IsNoLast (terms : Terms) (fault : JournalFault) (line : ℕ) (text : List ℕ) : Type 0 where
   pub head : List ℕ
   pub plain : List ℕ
   pub front : List ℕ
   pub written : List ℕ
   pub after : List ℕ
-  pub come : HasTaken grants head plain front written (done_line ++ after) text
+  pub come : HasTaken terms head plain front written (done_line ++ after) text
   pub assumes : List ℕ
   pub says : IsAssumeText (all_assumed come.channels) come.passed_over assumes
   pub stops : StopsAt fault (written ++ (assumes ++ done_line))
@@ -183,14 +187,14 @@ pub record IsNoLast (grants : Grants) (fault : JournalFault) (line : ℕ) (text 
 
 -- No further channel comes, and what is after the last line, or that there is none, makes the whole no bundle; this is the number of the
 -- line after it.
-pub record IsNoEnd (grants : Grants) (fault : JournalFault) (line : ℕ) (text : List ℕ) : Type 0 where
+pub record IsNoEnd (terms : Terms) (fault : JournalFault) (line : ℕ) (text : List ℕ) : Type 0 where
   pub head : List ℕ
   pub plain : List ℕ
   pub front : List ℕ
   pub written : List ℕ
   pub last : List ℕ
   pub behind : List ℕ
-  pub come : HasTaken grants head plain front written (last ++ behind) text
+  pub come : HasTaken terms head plain front written (last ++ behind) text
   pub ends : IsLast last behind
   pub assumes : List ℕ
   pub says : IsSaidBefore (last ++ behind) (all_assumed come.channels) come.passed_over assumes
@@ -206,12 +210,12 @@ pub record HasChannel (left channel log rest : List ℕ) : Type 0 where
 
 -- The line of a channel comes next, and has this number: without what was executed it is taken as a bundle's, after these bytes. This is
 -- its log, and this the bundle that the head begins.
-pub record HasNext (grants : Grants) (line : ℕ) (text written channel own log : List ℕ) (start : BundleValue) : Type 0 where
+pub record HasNext (terms : Terms) (line : ℕ) (text written channel own log : List ℕ) (start : BundleValue) : Type 0 where
   pub head : List ℕ
   pub plain : List ℕ
   pub front : List ℕ
   pub left : List ℕ
-  pub come : HasTaken grants head plain front written left text
+  pub come : HasTaken terms head plain front written left text
   pub rest : List ℕ
   pub next : HasChannel left channel log rest
   pub taken : IsTaken (written ++ with_line_feed own)
@@ -219,73 +223,85 @@ pub record HasNext (grants : Grants) (line : ℕ) (text written channel own log 
   pub number : line ≡ next_number (lines_in front)
 
 -- a channel whose line says by this word, or doesn't say, what was executed
-pub record HasWord (grants : Grants) (line : ℕ) (text : List ℕ) (word : Option (List ℕ)) : Type 0 where
+pub record HasWord (terms : Terms) (line : ℕ) (text : List ℕ) (word : Option (List ℕ)) : Type 0 where
   pub written : List ℕ
   pub channel : List ℕ
   pub own : List ℕ
   pub log : List ℕ
   pub start : BundleValue
-  pub next : HasNext grants line text written channel own log start
+  pub next : HasNext terms line text written channel own log start
   pub cut : IsCutLine channel own word
 
 -- the line doesn't say what was executed, and that isn't granted
-abbrev pub IsUnknown : Grants → ℕ → List ℕ → Type 0
-IsUnknown grants line text = HasWord grants line text None × (grants.executed_unknown ≡ false)
+abbrev pub IsUnknown : Terms → ℕ → List ℕ → Type 0
+IsUnknown terms line text = HasWord terms line text None × (terms.grants.executed_unknown ≡ false)
 
 -- what it says is no set
-abbrev pub HasNoSet : Grants → ℕ → List ℕ → Type 0
-HasNoSet grants line text = (word : List ℕ) × HasWord grants line text (Some word) × (set_of_word word ≡ None)
+abbrev pub HasNoSet : Terms → ℕ → List ℕ → Type 0
+HasNoSet terms line text = (word : List ℕ) × HasWord terms line text (Some word) × (set_of_word word ≡ None)
 
 -- what it says is a set with too many sources or intervals
-abbrev pub HasFullSet : Grants → SetFault → List ℕ → Type 0
-HasFullSet grants fault text = (line : ℕ) × (word : List ℕ) × HasWord grants line text (Some word) × IsWordFault fault (set_of_word word)
+abbrev pub HasFullSet : Terms → SetFault → List ℕ → Type 0
+HasFullSet terms fault text = (line : ℕ) × (word : List ℕ) × HasWord terms line text (Some word) × IsWordFault fault (set_of_word word)
 
 -- A channel, as far as its line goes: it says what was executed, or needn't.
-pub record HasLog (grants : Grants) (line : ℕ) (text log written channel own : List ℕ) (executed : Option Gtids) (start : BundleValue) : Type 0 where
-  pub next : HasNext grants line text written channel own log start
-  pub says : HadExecuted grants channel own executed
+pub record HasLog (terms : Terms) (line : ℕ) (text log written channel own : List ℕ) (executed : Option Gtids) (start : BundleValue) : Type 0 where
+  pub next : HasNext terms line text written channel own log start
+  pub says : HadExecuted terms.grants channel own executed
 
--- The line of a channel comes next; it has this number. Its log is not imported.
-pub record IsNoLog (grants : Grants) (fault : ImportFault) (line : ℕ) (text : List ℕ) : Type 0 where
+-- The line of a channel comes next; it has this number. Its log is not imported, of which the text behind the line tells.
+pub record IsNoLog (terms : Terms) (fault : ImportFault) (line : ℕ) (text : List ℕ) : Type 0 where
   pub written : List ℕ
   pub channel : List ℕ
   pub own : List ℕ
   pub log : List ℕ
   pub executed : Option Gtids
   pub start : BundleValue
-  pub has : HasLog grants line text log written channel own executed start
-  pub none : IsNoImport start.start.schema start.opened grants.bytes fault log
+  pub has : HasLog terms line text log written channel own executed start
+  pub none : BringsNone terms start (name_in own) log fault
+
+-- The same, but that the channel of this name has no log, for this reason.
+pub record IsLogless (terms : Terms) (fault : SourceFault) (line : ℕ) (name text : List ℕ) : Type 0 where
+  pub written : List ℕ
+  pub channel : List ℕ
+  pub own : List ℕ
+  pub log : List ℕ
+  pub executed : Option Gtids
+  pub start : BundleValue
+  pub has : HasLog terms line text log written channel own executed start
+  pub named : name ≡ name_in own
+  pub none : terms.origin.refuses name log start.opened fault
 
 -- The same, but that its log describes a journal that is none of a bundle's there; these are the tables of the head.
-pub record CantFollow (grants : Grants) (fault : JournalFault) (line : ℕ) (text : List ℕ) (start : BundleValue) (log : List ℕ) : Type 0 where
+pub record CantFollow (terms : Terms) (fault : JournalFault) (line : ℕ) (text : List ℕ) (start : BundleValue) (log : List ℕ) : Type 0 where
   pub written : List ℕ
   pub channel : List ℕ
   pub own : List ℕ
   pub executed : Option Gtids
-  pub has : HasLog grants line text log written channel own executed start
+  pub has : HasLog terms line text log written channel own executed start
   pub journal : List ℕ
   pub varied : List ℕ
-  pub imports : Imports start.start.schema start.opened grants.bytes log journal varied
+  pub imports : BringsJournal terms start (name_in own) log journal varied
   pub stops : StopsAt fault (written ++ (with_line_feed own ++ journal))
 
 -- a line of the journal is refused, and the first line of the log that maps a table which is none of those of the head has this number
-pub record HasTableFault (grants : Grants) (at line : ℕ) (text : List ℕ) : Type 0 where
+pub record HasTableFault (terms : Terms) (at line : ℕ) (text : List ℕ) : Type 0 where
   pub start : BundleValue
   pub log : List ℕ
   pub fault : JournalFault
   pub of_line : IsOfLine fault
-  pub follow : CantFollow grants fault line text start log
+  pub follow : CantFollow terms fault line text start log
   pub other : HasOther start.start.schema at log
 
 -- a journal is refused; if it is for one of its lines, no line of the log maps another table
-pub record HasJournalFault (grants : Grants) (fault : JournalFault) (line : ℕ) (text : List ℕ) : Type 0 where
+pub record HasJournalFault (terms : Terms) (fault : JournalFault) (line : ℕ) (text : List ℕ) : Type 0 where
   pub start : BundleValue
   pub log : List ℕ
-  pub follow : CantFollow grants fault line text start log
+  pub follow : CantFollow terms fault line text start log
   pub no_other : IsOfLine fault → HasNoOther start.start.schema log
 
 -- what is assumed of a channel has the part of the opening set that wasn't executed, which has too many intervals
-pub record HasFullPart (grants : Grants) (fault : SetFault) (text : List ℕ) : Type 0 where
+pub record HasFullPart (terms : Terms) (fault : SetFault) (text : List ℕ) : Type 0 where
   pub line : ℕ
   pub written : List ℕ
   pub channel : List ℕ
@@ -293,59 +309,61 @@ pub record HasFullPart (grants : Grants) (fault : SetFault) (text : List ℕ) : 
   pub log : List ℕ
   pub executed : Gtids
   pub start : BundleValue
-  pub has : HasLog grants line text log written channel own (Some executed) start
+  pub has : HasLog terms line text log written channel own (Some executed) start
   pub full : IsFaultOf fault (set.difference start.opened executed)
 
 -- ---- what was executed
 
 -- The text describes a bundle. The server of this channel had executed more than its log describes, and it is the first of which that is so.
-pub record HasMore (grants : Grants) (channel : List ℕ) (missing : Gtids) (text : List ℕ) : Type 0 where
+pub record HasMore (terms : Terms) (channel : List ℕ) (missing : Gtids) (text : List ℕ) : Type 0 where
   pub bundle : BundleValue
   pub notes : List ℕ
   pub logs : List ImportedLog
-  pub describes : DescribesBundle grants text logs bundle notes
+  pub describes : DescribesBundle terms text logs bundle notes
   pub lack : HasLack bundle (said logs) channel missing
 
 -- the same, but that the set which a channel lacks isn't made
-pub record IsTooLarge (grants : Grants) (fault : SetFault) (text : List ℕ) : Type 0 where
+pub record IsTooLarge (terms : Terms) (fault : SetFault) (text : List ℕ) : Type 0 where
   pub bundle : BundleValue
   pub notes : List ℕ
   pub logs : List ImportedLog
-  pub describes : DescribesBundle grants text logs bundle notes
+  pub describes : DescribesBundle terms text logs bundle notes
   pub full : IsFullAt fault bundle (said logs)
 
 -- ---- the fault that is reported
 
-abbrev pub IsNoNext : Grants → JournalFault → ℕ → List ℕ → Type 0
-IsNoNext grants fault line text = IsNoLine grants fault line text ⊎ (IsNoLast grants fault line text ⊎ IsNoEnd grants fault line text)
+abbrev pub IsNoNext : Terms → JournalFault → ℕ → List ℕ → Type 0
+IsNoNext terms fault line text = IsNoLine terms fault line text ⊎ (IsNoLast terms fault line text ⊎ IsNoEnd terms fault line text)
 
 -- A set is full: one of the bundle's, that which a channel's line says was executed, one of what is assumed, or that which a channel lacks.
-pub data IsFull (grants : Grants) (fault : SetFault) (text : List ℕ) : Type 0 where
-  InHead : IsNoHead grants (faults.Set fault) text → IsFull grants fault text
-  InLine : (n : ℕ) → IsNoNext grants (faults.Set fault) n text → IsFull grants fault text
-  InWord : HasFullSet grants fault text → IsFull grants fault text
-  InPart : HasFullPart grants fault text → IsFull grants fault text
-  InLack : IsTooLarge grants fault text → IsFull grants fault text
+pub data IsFull (terms : Terms) (fault : SetFault) (text : List ℕ) : Type 0 where
+  InHead : IsNoHead terms (faults.Set fault) text → IsFull terms fault text
+  InLine : (n : ℕ) → IsNoNext terms (faults.Set fault) n text → IsFull terms fault text
+  InWord : HasFullSet terms fault text → IsFull terms fault text
+  InPart : HasFullPart terms fault text → IsFull terms fault text
+  InLack : IsTooLarge terms fault text → IsFull terms fault text
 
 -- the fault names a line of the text's own; if out of memory, nothing is claimed of it
-abbrev pub IsNoOwn : Grants → JournalFault → List ℕ → Type 0
-IsNoOwn grants (faults.Set fault) text = IsMemoryOr (IsFull grants SourcesFull text) (IsFull grants PoolFull text) fault
-IsNoOwn grants (faults.Line n cause) text = IsNoHead grants (faults.Line n cause) text ⊎ (((m : ℕ) × IsNoNext grants (faults.Line m cause) n text) ⊎ ((cause ≡ causes.Body) × HasNoSet grants n text))
-IsNoOwn grants (faults.Truncated n) text = IsNoHead grants (faults.Truncated n) text ⊎ ((m : ℕ) × IsNoNext grants (faults.Truncated m) n text)
+abbrev pub IsNoOwn : Terms → JournalFault → List ℕ → Type 0
+IsNoOwn terms (faults.Set fault) text = IsMemoryOr (IsFull terms SourcesFull text) (IsFull terms PoolFull text) fault
+IsNoOwn terms (faults.Line n cause) text = IsNoHead terms (faults.Line n cause) text ⊎ (((m : ℕ) × IsNoNext terms (faults.Line m cause) n text) ⊎ ((cause ≡ causes.Body) × HasNoSet terms n text))
+IsNoOwn terms (faults.Truncated n) text = IsNoHead terms (faults.Truncated n) text ⊎ ((m : ℕ) × IsNoNext terms (faults.Truncated m) n text)
 
 -- the fault names the line of a channel
-abbrev pub IsNoneOf : Grants → JournalFault → List ℕ → Type 0
-IsNoneOf grants (faults.Set fault) text = (n : ℕ) × HasJournalFault grants (faults.Set fault) n text
-IsNoneOf grants (faults.Line n cause) text = (m : ℕ) × HasJournalFault grants (faults.Line m cause) n text
-IsNoneOf grants (faults.Truncated n) text = ⊥
+abbrev pub IsNoneOf : Terms → JournalFault → List ℕ → Type 0
+IsNoneOf terms (faults.Set fault) text = (n : ℕ) × HasJournalFault terms (faults.Set fault) n text
+IsNoneOf terms (faults.Line n cause) text = (m : ℕ) × HasJournalFault terms (faults.Line m cause) n text
+IsNoneOf terms (faults.Truncated n) text = ⊥
 
--- Why a text is no bundle of logs. Only the fault is reported that the first wrong line, or the log of the first wrong channel, has; lines of the
+-- Why a text is no bundle of logs, by these terms. Only the fault is reported that the first wrong line, or the log of the first wrong channel, has; lines of the
 -- head that aren't granted come before all others, and what was executed comes after them.
-abbrev pub IsNoBundle : Grants → BundleFault → List ℕ → Type 0
-IsNoBundle grants (bundles.Own fault) text = IsNoOwn grants fault text
-IsNoBundle grants (bundles.Log line fault) text = IsNoLog grants fault line text
-IsNoBundle grants (bundles.Table line at) text = HasTableFault grants at line text
-IsNoBundle grants (bundles.Journal fault) text = IsNoneOf grants fault text
-IsNoBundle grants (bundles.Unsupported what) text = HasUnsupported grants what.items text
-IsNoBundle grants (bundles.Unknown line) text = IsUnknown grants line text
-IsNoBundle grants (bundles.Executed channel missing) text = HasMore grants channel missing text
+abbrev pub IsNoBundle : Terms → BundleFault → List ℕ → Type 0
+IsNoBundle terms (bundles.Own fault) text = IsNoOwn terms fault text
+IsNoBundle terms (bundles.Log line fault) text = IsNoLog terms fault line text
+IsNoBundle terms (bundles.Table line at) text = HasTableFault terms at line text
+IsNoBundle terms (bundles.Journal fault) text = IsNoneOf terms fault text
+IsNoBundle terms (bundles.Unsupported what) text = HasUnsupported terms what.items text
+IsNoBundle terms (bundles.Unknown line) text = IsUnknown terms line text
+IsNoBundle terms (bundles.Logless line why) text = (name : List ℕ) × IsLogless terms (sources.Logless why) line name text
+IsNoBundle terms (bundles.Binlog channel fault) text = (line : ℕ) × IsLogless terms (sources.File fault) line channel.items text
+IsNoBundle terms (bundles.Executed channel missing) text = HasMore terms channel missing text

@@ -1,47 +1,69 @@
-//! What is assumed of a bundle of logs, as lines of the bundle: what was granted of its channels and of its head, and what of the opening set
-//! the servers of channels hadn't executed.
+//! What is assumed of a bundle of logs, as lines of the bundle: what was granted of its channels and of its head, what of the opening set
+//! the servers of channels hadn't executed, and which logs may be damaged unseen.
 ghost use Rattle.std.specs.Prelude.{◌≡◌, ◌++◌, ◌∷◌, [], IfOk, OnOk, IfErr};
 ghost use Rattle.std.specs.FinSet as set;
 ghost use Rattle.gtid_set.specs.Full.{IsFaultOf};
 ghost use Rattle.binlog_bundle.specs.Lines.{with_line_feed};
-ghost use Rattle.binlog_bundle.specs.Assumed.{executed_line, opening_line, references_line, opening_lines, assumed_of, references_lines, text_of, IsAssumeText, IsSaidBefore, IsPartFault};
+ghost use Rattle.binlog_bundle.specs.Assumed.{executed_line, checksums_line, opening_line, opening_lines, checksums_lines, executed_lines, assumed_of, references_text, text_of, IsAssumeText, IsSaidBefore, IsPartFault};
 
 use gtid_set::{GtidSet, SetFault};
 use row_images::ByteString;
 use std::alloc::{AllocError, Global};
 
-/// The line that says that nobody said what the server of a channel had executed.
-fn executed_line(alloc: Global, channel: &[u8]) -> Result<ByteString, AllocError>
-    ensures { IfOk result (λ line. line ≡ executed_line channel.now) }
+/// A line of what is assumed of a channel. Lines come in the order of a bundle's: by their kinds, and within a kind by their bytes.
+#[derive(PartialEq, Eq, PartialOrd, Ord, Drop)]
+pub struct AssumedLine {
+    /// The place of its kind: 0 for `executed`, 1 for `checksums`, 2 for `opening`.
+    pub rank: u32,
+    pub text: ByteString,
+}
+
+/// The line of this kind, whose last word is the channel.
+fn channel_line(
+    alloc: Global,
+    rank: u32,
+    kind: &[u8],
+    channel: &[u8],
+) -> Result<AssumedLine, AllocError>
+    ensures { IfOk result (λ line. line ≡ record { rank = rank; text = kind.now ++ channel.now }) }
 {
     let mut line = Vec::new(alloc);
-    line.extend_from_slice(b"assume executed ")?;
+    line.extend_from_slice(kind)?;
     line.extend_from_slice(channel)?;
-    ByteString::new(line)
+    let text = ByteString::new(line)?;
+    Ok(AssumedLine { rank, text })
+}
+
+/// The line that says that nobody said what the server of a channel had executed.
+fn executed_line(alloc: Global, channel: &[u8]) -> Result<AssumedLine, AllocError>
+    ensures { IfOk result (λ line. line ≡ executed_line channel.now) }
+{
+    channel_line(alloc, 0, b"assume executed ", channel)
+}
+
+/// The line that says that damage in the log of a channel couldn't be seen.
+fn checksums_line(alloc: Global, channel: &[u8]) -> Result<AssumedLine, AllocError>
+    ensures { IfOk result (λ line. line ≡ checksums_line channel.now) }
+{
+    channel_line(alloc, 1, b"assume checksums ", channel)
 }
 
 /// The line that says which part of the opening set the server of a channel hadn't executed.
-fn opening_line(alloc: Global, channel: &[u8], part: &GtidSet) -> Result<ByteString, AllocError>
+fn opening_line(alloc: Global, channel: &[u8], part: &GtidSet) -> Result<AssumedLine, AllocError>
     ensures { IfOk result (λ line. line ≡ opening_line channel.now part.now) }
 {
-    let text = part.to_text(alloc)?;
+    let set = part.to_text(alloc)?;
     let mut line = Vec::new(alloc);
     line.extend_from_slice(b"assume opening ")?;
     line.extend_from_slice(channel)?;
     line.push(b' ')?;
-    line.extend_from_slice(text.as_bytes())?;
-    ByteString::new(line)
-}
-
-/// The line that says that foreign keys aren't looked at.
-fn references_line(alloc: Global) -> Result<ByteString, AllocError>
-    ensures { IfOk result (λ line. line ≡ references_line) }
-{
-    ByteString::from_slice(alloc, b"assume references")
+    line.extend_from_slice(set.as_bytes())?;
+    let text = ByteString::new(line)?;
+    Ok(AssumedLine { rank: 2, text })
 }
 
 /// Adds a line.
-fn add(lines: &mut Vec<ByteString>, line: ByteString) -> Result<(), AllocError>
+fn add(lines: &mut Vec<AssumedLine>, line: AssumedLine) -> Result<(), AllocError>
     ensures { OnOk result (lines.new.items ≡ lines.old.items ++ line ∷ []) }
 {
     lines.push(line)?;
@@ -51,7 +73,7 @@ fn add(lines: &mut Vec<ByteString>, line: ByteString) -> Result<(), AllocError>
 /// Adds the line that says which part of the opening set the server of a channel hadn't executed, if there is one.
 fn assume_opening(
     alloc: Global,
-    lines: &mut Vec<ByteString>,
+    lines: &mut Vec<AssumedLine>,
     channel: &[u8],
     opened: &GtidSet,
     executed: &GtidSet,
@@ -72,14 +94,14 @@ fn assume_opening(
 }
 
 /// Adds what is assumed of a channel, by its name and what its server had executed.
-pub fn assume_channel(
+fn assume_executed(
     alloc: Global,
-    lines: &mut Vec<ByteString>,
+    lines: &mut Vec<AssumedLine>,
     channel: &[u8],
     opened: &GtidSet,
     executed: &Option<GtidSet>,
 ) -> Result<(), SetFault>
-    ensures ok { OnOk result (lines.new.items ≡ lines.old.items ++ assumed_of channel.now opened.now executed.now) }
+    ensures ok { OnOk result (lines.new.items ≡ lines.old.items ++ executed_lines channel.now opened.now executed.now) }
     ensures fault { IfErr result (λ fault. IsPartFault fault opened.now executed.now) }
 {
     match executed {
@@ -88,6 +110,39 @@ pub fn assume_channel(
             add(lines, executed_line(alloc, channel)?)?;
             Ok(())
         }
+    }
+}
+
+/// Adds the line that says that damage in the log of a channel couldn't be seen, if that is so.
+fn assume_checksums(
+    alloc: Global,
+    lines: &mut Vec<AssumedLine>,
+    channel: &[u8],
+    is_unchecked: bool,
+) -> Result<(), AllocError>
+    ensures { OnOk result (lines.new.items ≡ lines.old.items ++ checksums_lines channel.now is_unchecked) }
+{
+    if is_unchecked {
+        add(lines, checksums_line(alloc, channel)?)?;
+    }
+    Ok(())
+}
+
+/// Adds what is assumed of a channel, by its name, by what its server had executed, and by whether damage in its log couldn't be seen.
+pub fn assume_channel(
+    alloc: Global,
+    lines: &mut Vec<AssumedLine>,
+    channel: &[u8],
+    opened: &GtidSet,
+    executed: &Option<GtidSet>,
+    is_unchecked: bool,
+) -> Result<(), SetFault>
+    ensures ok { OnOk result (lines.new.items ≡ lines.old.items ++ assumed_of channel.now opened.now executed.now is_unchecked) }
+    ensures fault { IfErr result (λ fault. IsPartFault fault opened.now executed.now) }
+{
+    match assume_checksums(alloc, lines, channel, is_unchecked) {
+        Ok(()) => assume_executed(alloc, lines, channel, opened, executed),
+        Err(_) => Err(SetFault::Memory),
     }
 }
 
@@ -101,42 +156,38 @@ fn put_line(text: &mut Vec<u8>, line: &[u8]) -> Result<(), AllocError>
 }
 
 /// Puts lines after a text.
-fn put_lines(text: &mut Vec<u8>, lines: &[ByteString]) -> Result<(), AllocError>
+fn put_lines(text: &mut Vec<u8>, lines: &[AssumedLine]) -> Result<(), AllocError>
     ensures { OnOk result (text.new.items ≡ text.old.items ++ text_of lines.now) }
 {
     for line in lines {
-        put_line(text, line.as_slice())?;
+        put_line(text, line.text.as_slice())?;
     }
     Ok(())
 }
 
-/// Adds the line that says that references aren't looked at, if the head's lines of foreign keys were passed over.
-fn assume_references(
-    alloc: Global,
-    lines: &mut Vec<ByteString>,
-    passed_over: bool,
-) -> Result<(), AllocError>
-    ensures { OnOk result (lines.new.items ≡ lines.old.items ++ references_lines passed_over) }
+/// Puts the line that says that references aren't looked at, if the head's lines of foreign keys were passed over.
+fn put_references(text: &mut Vec<u8>, passed_over: bool) -> Result<(), AllocError>
+    ensures { OnOk result (text.new.items ≡ text.old.items ++ references_text passed_over) }
 {
     if passed_over {
-        add(lines, references_line(alloc)?)?;
+        put_line(text, b"assume references")?;
     }
     Ok(())
 }
 
-/// The text of all lines: those of channels, in the order of their bytes, and then that of references.
+/// The text of all lines: those of channels, in their order, and then that of references.
 fn assume_text(
     alloc: Global,
-    lines: Vec<ByteString>,
+    lines: Vec<AssumedLine>,
     passed_over: bool,
 ) -> Result<Vec<u8>, AllocError>
     ensures { IfOk result (λ text. IsAssumeText lines.items passed_over text.items) }
 {
     let mut lines = lines;
     lines.sort_unstable();
-    assume_references(alloc, &mut lines, passed_over)?;
     let mut text = Vec::new(alloc);
     put_lines(&mut text, &lines)?;
+    put_references(&mut text, passed_over)?;
     Ok(text)
 }
 
@@ -144,7 +195,7 @@ fn assume_text(
 pub fn said_before(
     alloc: Global,
     left: &[u8],
-    lines: Vec<ByteString>,
+    lines: Vec<AssumedLine>,
     passed_over: bool,
 ) -> Result<Vec<u8>, AllocError>
     ensures { IfOk result (λ text. IsSaidBefore left.now lines.items passed_over text.items) }

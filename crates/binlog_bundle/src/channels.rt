@@ -1,23 +1,24 @@
 //! The channels of a bundle of logs.
 ghost use Rattle.std.specs.Prelude.{◌≡◌, ◌++◌, ◌∷◌, [], ℕ, List, option_map, IfOk, IfErr, OnOk};
 ghost use Rattle.txn_journal.specs.BundleReaders.{bundle_reading};
-ghost use Rattle.binlog_bundle.specs.Assumed.{IsPartFault};
-ghost use Rattle.binlog_bundle.specs.Notes.{notes_for};
-ghost use Rattle.binlog_bundle.specs.Bundles.{BeginsLast, assumed_for};
+ghost use Rattle.binlog_bundle.specs.Assumed.{assumed_of, IsPartFault};
+ghost use Rattle.binlog_bundle.specs.Notes.{name_in, notes_for};
+ghost use Rattle.binlog_bundle.specs.Bundles.{BeginsLast};
+ghost use Rattle.binlog_bundle.specs.Logs.{terms_of, BringsJournal};
 ghost use Rattle.binlog_bundle.specs.Refused.{IsFed, IsNoBundle};
-ghost use Rattle.binlog_bundle.specs.Channels.{HasRead, HasCome, FeedsLog, FeedsChannel, IsSaid, IsAssumed, IsNoted, IsWordRead, IsWordRefused, IsJournalFault, CantFeedLog, CantFeedChannel};
+ghost use Rattle.binlog_bundle.specs.Channels.{HasRead, HasCome, FeedsLog, FeedsChannel, IsSaid, IsAssumed, IsNoted, IsWordRead, IsWordRefused, IsNotHad, IsJournalFault, CantFeedLog, CantFeedChannel};
 
-use crate::assumed::assume_channel;
+use crate::assumed::{AssumedLine, assume_channel};
 use crate::executed::{cut_executed, executed_set};
-use crate::fault::{BundleFault, ChannelFault};
+use crate::fault::{BundleFault, ChannelFault, SourceFault};
 use crate::grants::Grants;
 use crate::lines::{cut_own, is_channel, line_at};
+use crate::logs::Logs;
 use crate::notes::{name_in, note_bytes};
 use crate::reading::{add, add_line};
 use crate::tables::other_table;
-use binlog_entries::{cut_line, import_journal};
+use binlog_entries::{ImportFault, ImportedJournal, cut_line, journal_of};
 use gtid_set::{GtidSet, SetFault};
-use row_images::ByteString;
 use rows::Schema;
 use std::alloc::Global;
 use txn_journal::{Bundle, BundleReader, JournalFault};
@@ -25,12 +26,12 @@ use txn_journal::{Bundle, BundleReader, JournalFault};
 /// What the head and the channels of a text have made, as far as they have come.
 #[derive(Drop)]
 pub struct ImportProgress {
-    /// It has read the plain head, and the journals in the place of the logs.
+    /// It has read the plain head, and the journals of the logs.
     pub reader: BundleReader,
     /// What the server of each channel had executed, if its line says so.
     pub executed: Vec<Option<GtidSet>>,
     /// The lines that say what is assumed of the channels.
-    pub assumed: Vec<ByteString>,
+    pub assumed: Vec<AssumedLine>,
     /// Whether lines of the head were passed over.
     pub passed_over: bool,
     pub notes: Vec<u8>,
@@ -49,29 +50,74 @@ fn journal_fault(schema: &Schema, log: &[u8], fault: JournalFault) -> ChannelFau
     }
 }
 
-/// Takes the journal that a log describes, and returns the places of the tables with a key that isn't compared by its bytes.
-fn take_log(
+/// Why the channel of this name isn't read, if it has no log for this reason.
+fn source_fault(alloc: Global, name: &[u8], fault: SourceFault) -> ChannelFault
+    ensures { IsNotHad name.now fault result }
+{
+    match fault {
+        SourceFault::Text(fault) => ChannelFault::Log(ImportFault::Text(fault)),
+        SourceFault::Logless(why) => ChannelFault::Logless(why),
+        SourceFault::File(fault) => match name.to_vec(alloc) {
+            Ok(channel) => ChannelFault::Binlog(channel, fault),
+            Err(_) => ChannelFault::Own(JournalFault::Set(SetFault::Memory)),
+        },
+    }
+}
+
+/// The journal of a channel's log.
+#[derive(Drop)]
+pub struct LogJournal {
+    pub journal: ImportedJournal,
+    /// Whether damage in the log couldn't be seen.
+    pub is_unchecked: bool,
+}
+
+/// The journal of the log of the channel of this name, with this text behind its line.
+fn read_journal<L: Logs>(
     alloc: Global,
     grants: Grants,
+    logs: &L,
+    start: &Bundle,
+    name: &[u8],
+    log: &[u8],
+) -> Result<LogJournal, ChannelFault>
+    ensures found { IfOk result (λ j. BringsJournal (terms_of grants (L.origin logs.now)) start.now name.now log.now j.journal.text.items j.journal.varied.items) }
+    ensures unchecked { IfOk result (λ j. j.is_unchecked ≡ (L.origin logs.now).is_unchecked name.now) }
+    ensures refused { (before : List ℕ) → IfErr result (CantFeedLog (terms_of grants (L.origin logs.now)) start.now name.now log.now before) }
+{
+    let read = match logs.read(alloc, name, start.opening_set(), log) {
+        Ok(read) => read,
+        Err(fault) => return Err(source_fault(alloc, name, fault)),
+    };
+    match journal_of(alloc, start.schema(), grants.bytes, &read.log) {
+        Ok(journal) => Ok(LogJournal {
+            journal,
+            is_unchecked: read.is_unchecked,
+        }),
+        Err(fault) => Err(ChannelFault::Log(fault)),
+    }
+}
+
+/// Takes the journal of the log of the channel of this name, with this text behind its line.
+fn take_log<L: Logs>(
+    alloc: Global,
+    grants: Grants,
+    logs: &L,
     start: &Bundle,
     reader: &mut BundleReader,
+    name: &[u8],
     log: &[u8],
-) -> Result<Vec<usize>, ChannelFault>
-    ensures fed { IfOk result (λ varied. FeedsLog grants start.now log.now (bundle_reading reader.old) (bundle_reading reader.new) varied.items) }
-    ensures refused { (before : List ℕ) → IsFed (bundle_reading reader.old) before → IfErr result (CantFeedLog grants start.now log.now before) }
+) -> Result<LogJournal, ChannelFault>
+    ensures fed { IfOk result (λ j. FeedsLog (terms_of grants (L.origin logs.now)) start.now name.now log.now (bundle_reading reader.old) (bundle_reading reader.new) j.journal.varied.items) }
+    ensures unchecked { IfOk result (λ j. j.is_unchecked ≡ (L.origin logs.now).is_unchecked name.now) }
+    ensures refused { (before : List ℕ) → IsFed (bundle_reading reader.old) before → IfErr result (CantFeedLog (terms_of grants (L.origin logs.now)) start.now name.now log.now before) }
 {
-    let journal = match import_journal(
-        alloc,
-        start.schema(),
-        start.opening_set(),
-        grants.bytes,
-        log,
-    ) {
-        Ok(journal) => journal,
-        Err(fault) => return Err(ChannelFault::Log(fault)),
+    let read = match read_journal(alloc, grants, logs, start, name, log) {
+        Ok(read) => read,
+        Err(fault) => return Err(fault),
     };
-    match add(alloc, reader, &journal.text) {
-        Ok(()) => Ok(journal.varied),
+    match add(alloc, reader, &read.journal.text) {
+        Ok(()) => Ok(read),
         Err(fault) => Err(journal_fault(start.schema(), log, fault)),
     }
 }
@@ -101,13 +147,13 @@ fn keep_channel(
     start: &Bundle,
     progress: &mut ImportProgress,
     own: &[u8],
-    varied: &[usize],
+    read: &LogJournal,
     executed: Option<GtidSet>,
 ) -> Result<(), SetFault>
     ensures reader { bundle_reading progress.new.reader ≡ bundle_reading progress.old.reader }
     ensures said { OnOk result (IsSaid progress.old progress.new executed) }
-    ensures assumed { OnOk result (IsAssumed progress.old progress.new (assumed_for start.now own.now executed)) }
-    ensures noted { OnOk result (IsNoted progress.old progress.new (notes_for start.now own.now varied.now)) }
+    ensures assumed { OnOk result (IsAssumed progress.old progress.new (assumed_of (name_in own.now) start.now.opened executed read.now.is_unchecked)) }
+    ensures noted { OnOk result (IsNoted progress.old progress.new (notes_for start.now own.now read.now.journal.varied.items)) }
     ensures head { progress.new.passed_over ≡ progress.old.passed_over }
     ensures fault { IfErr result (λ fault. IsPartFault fault start.now.opened executed) }
 {
@@ -118,6 +164,7 @@ fn keep_channel(
         channel,
         start.opening_set(),
         &executed,
+        read.is_unchecked,
     ) {
         Ok(()) => {}
         Err(fault) => return Err(fault),
@@ -126,23 +173,24 @@ fn keep_channel(
         &mut progress.notes,
         channel,
         start.schema().tables(),
-        varied,
+        &read.journal.varied,
     )?;
     progress.executed.push(executed)?;
     Ok(())
 }
 
-/// Takes the line of a channel, and the journal that its log describes.
-fn take_channel(
+/// Takes the line of a channel, and the journal of its log.
+fn take_channel<L: Logs>(
     alloc: Global,
     grants: Grants,
+    logs: &L,
     start: &Bundle,
     progress: &mut ImportProgress,
     line: &[u8],
     log: &[u8],
 ) -> Result<(), ChannelFault>
-    ensures fed { OnOk result (FeedsChannel grants start.now line.now log.now progress.old progress.new) }
-    ensures refused { (before : List ℕ) → HasRead progress.old before → IfErr result (CantFeedChannel grants start.now line.now log.now before) }
+    ensures fed { OnOk result (FeedsChannel (terms_of grants (L.origin logs.now)) start.now line.now log.now progress.old progress.new) }
+    ensures refused { (before : List ℕ) → HasRead progress.old before → IfErr result (CantFeedChannel (terms_of grants (L.origin logs.now)) start.now line.now log.now before) }
 {
     let (own, word) = cut_executed(line);
     match add_line(alloc, &mut progress.reader, own) {
@@ -153,29 +201,31 @@ fn take_channel(
         Ok(executed) => executed,
         Err(fault) => return Err(fault),
     };
-    let varied = match take_log(alloc, grants, start, &mut progress.reader, log) {
-        Ok(varied) => varied,
+    let reader = &mut progress.reader;
+    let read = match take_log(alloc, grants, logs, start, reader, name_in(own), log) {
+        Ok(read) => read,
         Err(fault) => return Err(fault),
     };
-    match keep_channel(alloc, start, progress, own, &varied, executed) {
+    match keep_channel(alloc, start, progress, own, &read, executed) {
         Ok(()) => Ok(()),
         Err(fault) => Err(ChannelFault::Own(JournalFault::Set(fault))),
     }
 }
 
 /// Takes the channels with which what is left of a text begins, and returns what is left after them.
-pub fn take_channels<'a>(
+pub fn take_channels<'a, L: Logs>(
     alloc: Global,
     grants: Grants,
+    logs: &L,
     start: &Bundle,
     progress: &mut ImportProgress,
     text: &[u8],
     rest: &'a [u8],
 ) -> Result<&'a [u8], BundleFault>
-    requires { HasCome grants start.now text.now rest.now progress.old }
+    requires { HasCome (terms_of grants (L.origin logs.now)) start.now text.now rest.now progress.old }
     ensures last { IfOk result (λ left. BeginsLast left.now) }
-    ensures come { IfOk result (λ left. HasCome grants start.now text.now left.now progress.new) }
-    ensures refused { IfErr result (λ fault. IsNoBundle grants fault text.now) }
+    ensures come { IfOk result (λ left. HasCome (terms_of grants (L.origin logs.now)) start.now text.now left.now progress.new) }
+    ensures refused { IfErr result (λ fault. IsNoBundle (terms_of grants (L.origin logs.now)) fault text.now) }
 {
     let mut left = rest;
     while let Some((line, after)) = cut_line(left) {
@@ -183,7 +233,7 @@ pub fn take_channels<'a>(
             return Ok(left);
         }
         let (log, behind) = cut_own(after);
-        match take_channel(alloc, grants, start, progress, line, log) {
+        match take_channel(alloc, grants, logs, start, progress, line, log) {
             Ok(()) => left = behind,
             Err(fault) => return Err(fault.at(line_at(text, left))),
         }

@@ -2,17 +2,38 @@
 ghost use Rattle.std.specs.Prelude.{◌≡◌};
 ghost use Rattle.binlog_bundle.specs.Refused.{fault_at_line, channel_fault_at};
 
-use binlog_entries::ImportFault;
+use binlog_entries::{ImportFault, ReadFault};
+use binlog_files::FiledFault;
 use gtid_set::GtidSet;
 use rows::Name;
 use txn_journal::JournalFault;
+
+/// Why a channel has no log, by what is behind its line.
+#[derive(Clone, Copy, Debug, PartialEq, Eq)]
+pub enum Logless {
+    /// There are no files of a channel of this name.
+    Missing,
+    /// There is text, though logs are read from files.
+    Surplus,
+}
+
+/// Why a channel has no log.
+#[derive(Drop)]
+pub enum SourceFault {
+    /// The text behind its line, which is that of its log, isn't read.
+    Text(ReadFault),
+    /// There are no files, or there is text.
+    Logless(Logless),
+    /// One of its files isn't read.
+    File(FiledFault),
+}
 
 /// Why a bundle of logs is not read. Lines count from 1 over the whole text.
 #[derive(Drop)]
 pub enum BundleFault {
     /// A line of the bundle's own is faulty, or the text ends before its last line; or out of memory, or a set is full.
     Own(JournalFault),
-    /// The log after the line of a channel is not imported; its own lines count from the next one.
+    /// The log of the channel at this line is not imported. Where it is the text behind that line, its own lines count from the next one.
     Log { line: u64, fault: ImportFault },
     /// A line of the log after the line of a channel maps a table that the bundle has not; it counts from the next one.
     Table { line: u64, at: u64 },
@@ -23,6 +44,10 @@ pub enum BundleFault {
     Unsupported(Vec<u8>),
     /// The line of a channel doesn't say what its server had executed.
     Unknown { line: u64 },
+    /// There is no log of the channel at this line.
+    Logless { line: u64, why: Logless },
+    /// One of the files of the channel of this name isn't read.
+    Binlog { channel: Vec<u8>, fault: FiledFault },
     /// The server of the channel had executed more than its log describes: the missing GTIDs are in neither the opening set, nor the set
     /// that was executed before the log, nor its entries. Of such channels it is the first.
     Executed { channel: Name, missing: GtidSet },
@@ -47,6 +72,9 @@ pub enum ChannelFault {
     Log(ImportFault),
     Table(u64),
     Journal(JournalFault),
+    Logless(Logless),
+    /// The channel's name, and what is wrong with its files.
+    Binlog(Vec<u8>, FiledFault),
 }
 
 impl ChannelFault {
@@ -60,6 +88,8 @@ impl ChannelFault {
             ChannelFault::Log(fault) => BundleFault::Log { line, fault },
             ChannelFault::Table(at) => BundleFault::Table { line, at },
             ChannelFault::Journal(fault) => BundleFault::Journal(fault_at_line(fault, line)),
+            ChannelFault::Logless(why) => BundleFault::Logless { line, why },
+            ChannelFault::Binlog(channel, fault) => BundleFault::Binlog { channel, fault },
         }
     }
 }

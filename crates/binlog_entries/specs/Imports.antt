@@ -2,7 +2,6 @@
 use Rattle.std.specs.Prelude.{◌≡◌, ℕ, Bool, false, List, Some, None}
 use Rattle.gtid_set.specs.Sets.{Gtids}
 use Rattle.journal.specs.declared.Entry.{Entry}
-use Rattle.journal.specs.Journals.{JournalValue}
 use Rattle.rows.specs.declared.schema.Table.{Table}
 use Rattle.txn_journal.specs.Spelling.{spelling_as}
 use Rattle.txn_journal.specs.Stamps.{right_stamps}
@@ -21,16 +20,28 @@ use Rattle.binlog_entries.specs.declared.import.ImportFault.TheVariants as fault
 abbrev pub AreKeysTaken : List Table → Bool → List Varied → Type 0
 AreKeysTaken tables bytes varied = bytes ≡ false → varied_key tables varied ≡ None
 
--- What is written is the text, by version 3, of a journal whose entries denote what the lines of the log's text mean, after what was executed before by
--- these lines. The server compares each key by its bytes, unless that is not required: then these are the places of the tables with a key
--- that it doesn't.
-pub record Imports (tables : List Table) (opening : Gtids) (bytes : Bool) (text written places : List ℕ) : Type 0 where
-  pub journal : JournalValue
-  pub varied : List Varied
-  pub log : IsLog opening text journal.previous journal.entries varied
+-- What is written is the text, by version 3, of the journal of these entries after this set. The server compares each key by its bytes, unless
+-- that is not required: then these are the places of the tables with a key that it doesn't.
+pub record IsWritten (tables : List Table) (bytes : Bool) (previous : Gtids) (entries : List Entry) (varied : List Varied) (written places : List ℕ) : Type 0 where
   pub keys : AreKeysTaken tables bytes varied
   pub varies : places ≡ varied_places 0 tables varied
-  pub spells : written ≡ spelling_as Three (right_stamps Three tables journal.entries) journal
+  pub spells : written ≡ spelling_as Three (right_stamps Three tables entries) (record { previous = previous; entries = entries })
+
+-- Why they are not written: the first column of a key that the server compares otherwise than its bytes is this one of this table, if keys
+-- are tested; or the keys are taken, and the first entry that does not follow those before it has this fault; or out of memory.
+abbrev pub IsNotWritten : List Table → Bool → Gtids → List Entry → List Varied → ImportFault → Type 0
+IsNotWritten tables bytes previous entries varied (faults.Text fault) = fault ≡ reads.Set Memory
+IsNotWritten tables bytes previous entries varied (faults.Key table column) = (bytes ≡ false) × (varied_key tables varied ≡ Some (table, column))
+IsNotWritten tables bytes previous entries varied (faults.Log fault) = AreKeysTaken tables bytes varied × IsNoJournal fault previous entries
+
+-- The entries denote what the lines of the log's text mean, after what was executed before by these lines, and their journal is what is
+-- written.
+pub record Imports (tables : List Table) (opening : Gtids) (bytes : Bool) (text written places : List ℕ) : Type 0 where
+  pub previous : Gtids
+  pub entries : List Entry
+  pub varied : List Varied
+  pub log : IsLog opening text previous entries varied
+  pub writes : IsWritten tables bytes previous entries varied written places
 
 -- the text is that of a log whose keys are taken, and its first entry that does not follow those before it has this fault
 pub record IsUnfit (tables : List Table) (opening : Gtids) (bytes : Bool) (fault : LogFault) (text : List ℕ) : Type 0 where

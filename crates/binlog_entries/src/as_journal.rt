@@ -7,11 +7,11 @@ ghost use Rattle.txn_journal.specs.Kept.{IsSeen};
 ghost use Rattle.binlog_entries.specs.Journals.{are_numbered, IsNoJournal, MayFollow, MayNotFollow};
 ghost use Rattle.binlog_entries.specs.declared.as_journal.LogFault.TheVariants as log_faults;
 
-use crate::draft::Log;
 use crate::limits::{Limit, limit_of};
 use gtid_set::{GtidSet, SetFault};
 use gtid_text::Gtid;
 use journal::{Entry, Journal};
+use log_transactions::LoggedTransactions;
 use std::alloc::{AllocError, Global};
 use std::fmt;
 use thiserror::Error;
@@ -103,17 +103,15 @@ fn follow_all(
     Ok(())
 }
 
-impl Log {
-    /// The journal of these entries after what was executed before.
-    pub fn journal(&self, alloc: Global) -> Result<Journal, LogFault>
-        ensures found { IfOk result (λ j. j ≡ record { previous = self.now.previous; entries = self.now.entries.items }) }
-        ensures refused { IfErr result (λ fault. IsNoJournal fault self.now.previous self.now.entries.items) }
-    {
-        let mut seen = self.previous.copy(alloc)?;
-        let mut journal = Journal::start(alloc, self.previous.copy(alloc)?);
-        match follow_all(alloc, &mut journal, &mut seen, &self.entries) {
-            Ok(()) => Ok(journal),
-            Err(fault) => Err(fault),
-        }
+/// The journal of a log: its entries after what was executed before.
+pub fn log_journal(alloc: Global, log: &LoggedTransactions) -> Result<Journal, LogFault>
+    ensures found { IfOk result (λ j. j ≡ record { previous = log.now.previous; entries = log.now.entries.items }) }
+    ensures refused { IfErr result (λ fault. IsNoJournal fault log.now.previous log.now.entries.items) }
+{
+    let mut seen = log.previous.copy(alloc)?;
+    let mut journal = Journal::start(alloc, log.previous.copy(alloc)?);
+    match follow_all(alloc, &mut journal, &mut seen, &log.entries) {
+        Ok(()) => Ok(journal),
+        Err(fault) => Err(fault),
     }
 }

@@ -1,7 +1,5 @@
 //! Entries as far as the lines have come.
 ghost use Rattle.std.specs.Prelude.{◌≡◌, true, length, IfOk, option_map};
-ghost use Rattle.gtid_set.specs.Laws.{HaveNumbers};
-ghost use Rattle.binlog_entries.specs.Journals.{are_numbered};
 ghost use Rattle.binlog_entries.specs.Machine.{Finds};
 
 use crate::bodies::{Body, kind_of, next_body};
@@ -14,9 +12,8 @@ use binlog_text::{
     read_line,
 };
 use gtid_set::GtidSet;
-use journal::Entry;
 use journal_words::{gtid_word, set_word};
-use log_transactions::{LogTransactions, Varied, table_name};
+use log_transactions::{LogTransactions, LoggedTransactions, table_name};
 use rows::{Name, Value};
 use std::alloc::{AllocError, Global};
 use std::mem;
@@ -29,19 +26,6 @@ pub enum RowPart {
     Before,
     /// Values of the row after it.
     After,
-}
-
-/// What a binary log describes.
-#[derive(Drop)]
-pub struct Log {
-    /// The set that was executed before, by its first file. Its numbers are 1 to 2^63 - 1.
-    pub previous: GtidSet,
-    /// Its entries, in order.
-    pub entries: Vec<Entry>,
-    /// The columns whose values the server compares otherwise than their bytes.
-    pub varied: Vec<Varied>,
-    ghost numbers: { HaveNumbers previous },
-    ghost numbered: { are_numbered entries.items ≡ true },
 }
 
 /// The entries of a binary log, as far as its lines have come.
@@ -389,16 +373,11 @@ impl LogDraft {
     }
 
     /// The set that was executed before, by the files, and the entries in order.
-    pub fn into_log(self) -> Log
+    pub fn into_log(self) -> LoggedTransactions
         ensures previous { result.previous ≡ (standing self).log.previous }
         ensures entries { result.entries.items ≡ (standing self).log.entries }
         ensures varied { result.varied.items ≡ (standing self).log.varied }
     {
-        let log = self.log.into_log();
-        Log {
-            previous: log.previous,
-            entries: log.entries,
-            varied: log.varied,
-        }
+        self.log.into_log()
     }
 }

@@ -1,18 +1,18 @@
-//! The text of a log as that of a journal.
+//! A log as the text of a journal.
 ghost use Rattle.std.specs.Prelude.{◌≡◌, IfOk, IfErr, OnOk, IfSome, IfNone};
 ghost use Rattle.txn_journal.specs.Spelling.{spelling_as};
 ghost use Rattle.txn_journal.specs.Stamps.{right_stamps};
 ghost use Rattle.txn_journal.specs.declared.lines.Version.TheVariants.{Three};
 ghost use Rattle.binlog_entries.specs.Keys.{varied_places};
-ghost use Rattle.binlog_entries.specs.Imports.{Imports, IsNoImport, AreKeysTaken, IsKeyFault};
+ghost use Rattle.binlog_entries.specs.Imports.{Imports, IsNoImport, IsWritten, IsNotWritten, AreKeysTaken, IsKeyFault};
 
-use crate::as_journal::LogFault;
+use crate::as_journal::{LogFault, log_journal};
 use crate::fault::ReadFault;
 use crate::keys::{varied_key, varied_places};
 use crate::reader::read_log;
 use gtid_set::{GtidSet, SetFault};
 use journal::Journal;
-use log_transactions::{Varied, VariedColumns};
+use log_transactions::{LoggedTransactions, Varied, VariedColumns};
 use rows::{Name, Schema, Table};
 use std::alloc::{AllocError, Global};
 use std::fmt;
@@ -22,10 +22,10 @@ use txn_journal::encode_v2;
 /// Where the first line of a journal, `journal 2`, has its version.
 const VERSION_PLACE: usize = 8;
 
-/// Why a log's text is not imported.
+/// Why a log, or its text, is not imported.
 #[derive(Drop, Error)]
 pub enum ImportFault {
-    /// Its text is not read.
+    /// Its text is not read; or out of memory.
     #[error("{0}")]
     Text(ReadFault),
     /// A table of the schema, and a column of a key of it, counted from 0, whose values the server compares otherwise than their bytes.
@@ -101,6 +101,35 @@ fn journal_text(alloc: Global, schema: &Schema, journal: &Journal) -> Result<Vec
     Ok(text)
 }
 
+/// The journal of a log, wherever its transactions were read; its entries change tables of this schema. `bytes` takes keys that the server
+/// compares otherwise than their bytes.
+pub fn journal_of(
+    alloc: Global,
+    schema: &Schema,
+    bytes: bool,
+    log: &LoggedTransactions,
+) -> Result<ImportedJournal, ImportFault>
+    // It is written with the log's entries, after what was executed before.
+    ensures found { IfOk result (λ i.
+        IsWritten schema.now bytes log.now.previous log.now.entries.items log.now.varied.items i.text.items i.varied.items) }
+    // Which key is the first that is not compared by bytes, or which entry may not follow those before it.
+    ensures refused { IfErr result
+        (IsNotWritten schema.now bytes log.now.previous log.now.entries.items log.now.varied.items) }
+{
+    let varied = match places_of(alloc, bytes, schema.tables(), &log.varied) {
+        Ok(varied) => varied,
+        Err(fault) => return Err(fault),
+    };
+    let journal = match log_journal(alloc, log) {
+        Ok(journal) => journal,
+        Err(fault) => return Err(ImportFault::Log(fault)),
+    };
+    match journal_text(alloc, schema, &journal) {
+        Ok(text) => Ok(ImportedJournal { text, varied }),
+        Err(_) => Err(ImportFault::Log(LogFault::Set(SetFault::Memory))),
+    }
+}
+
 /// The journal that the text of a binary log describes; its entries change tables of this schema, and what comes before the log is in the
 /// opening set. `bytes` takes keys that the server compares otherwise than their bytes.
 pub fn import_journal(
@@ -115,20 +144,8 @@ pub fn import_journal(
     // Which line is the first that is refused, which key is the first that is not compared by bytes, or which entry may not follow those before it.
     ensures refused { IfErr result (λ fault. IsNoImport schema.now opening.now bytes fault text.now) }
 {
-    let log = match read_log(alloc, opening, text) {
-        Ok(log) => log,
-        Err(fault) => return Err(ImportFault::Text(fault)),
-    };
-    let varied = match places_of(alloc, bytes, schema.tables(), &log.varied) {
-        Ok(varied) => varied,
-        Err(fault) => return Err(fault),
-    };
-    let journal = match log.journal(alloc) {
-        Ok(journal) => journal,
-        Err(fault) => return Err(ImportFault::Log(fault)),
-    };
-    match journal_text(alloc, schema, &journal) {
-        Ok(text) => Ok(ImportedJournal { text, varied }),
-        Err(_) => Err(ImportFault::Log(LogFault::Set(SetFault::Memory))),
+    match read_log(alloc, opening, text) {
+        Ok(log) => journal_of(alloc, schema, bytes, &log),
+        Err(fault) => Err(ImportFault::Text(fault)),
     }
 }

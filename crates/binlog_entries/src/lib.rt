@@ -1,8 +1,8 @@
 //! The text of MySQL's binary logs as entries: the lines of `binlog_text`, which tell the events of `log_transactions`.
 //!
 //! `LogReader` takes the text in pieces (`start`, `feed`, `finish`), and `read_log` is one `feed` and `finish`. Each is given the opening set:
-//! what comes before the log. A `Log` is the set that was executed before, by the first file, and the entries in order. `import_journal`
-//! writes it as a journal's text, by version 3 of the format.
+//! what comes before the log. `LoggedTransactions` are the set that was executed before, by the first file, and the entries in order.
+//! `journal_of` writes them, wherever they were read, as a journal's text, by version 3 of the format; `import_journal` is `read_log` and that.
 //!
 //! What a contract sees: `takes` defines which kinds of lines are allowed in the body of which event, `events_of` which events of
 //! `log_transactions` a line tells, and `take_content` what it adds besides: the types of columns, and the row that is open. `IsLog` says
@@ -40,10 +40,10 @@ mod tables;
 mod unread;
 
 pub use as_journal::LogFault;
-pub use draft::{Log, LogDraft};
+pub use draft::LogDraft;
 pub use fault::{EntryFault, EntryRefusal, ReadFault};
-pub use import::{ImportFault, ImportedJournal, import_journal};
+pub use import::{ImportFault, ImportedJournal, import_journal, journal_of};
 pub use laws::{cut_anywhere, lines_mean_entries, statements_hold_no_rows};
 pub use limits::Limit;
-pub use log_transactions::Varied;
+pub use log_transactions::{LoggedTransactions, Varied};
 pub use reader::{LogReader, cut_line, read_log};

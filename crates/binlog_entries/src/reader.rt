@@ -6,9 +6,10 @@ ghost use Rattle.binlog_entries.specs.Machine.{TakesOr, judge};
 ghost use Rattle.binlog_entries.specs.Drafts.{standing};
 ghost use Rattle.binlog_entries.specs.Readers.{progress, log_seen};
 
-use crate::draft::{Log, LogDraft};
+use crate::draft::LogDraft;
 use crate::fault::{EntryFault, ReadFault};
 use gtid_set::GtidSet;
+use log_transactions::LoggedTransactions;
 use memchr::memchr;
 use std::alloc::Global;
 
@@ -156,7 +157,7 @@ impl LogReader {
     }
 
     /// What the log describes, if the last file has ended.
-    pub fn finish(self) -> Result<Log, ReadFault>
+    pub fn finish(self) -> Result<LoggedTransactions, ReadFault>
         ensures { Seen log_seen result ≡ closing (progress self) }
     {
         match self.end() {
@@ -166,7 +167,7 @@ impl LogReader {
     }
 }
 
-fn read(alloc: Global, opening: GtidSet, text: &[u8]) -> Result<Log, ReadFault>
+fn read(alloc: Global, opening: GtidSet, text: &[u8]) -> Result<LoggedTransactions, ReadFault>
     ensures { Ends (IsPieceFault (start opening) text.now) (Seen log_seen result) (closing (feed_bytes (start opening) text.now)) }
 {
     let mut reader = LogReader::start(alloc, opening);
@@ -177,7 +178,11 @@ fn read(alloc: Global, opening: GtidSet, text: &[u8]) -> Result<Log, ReadFault>
 }
 
 /// What the text of a binary log describes, the text of its files one after another. What comes before the log is in the opening set.
-pub fn read_log(alloc: Global, opening: &GtidSet, text: &[u8]) -> Result<Log, ReadFault>
+pub fn read_log(
+    alloc: Global,
+    opening: &GtidSet,
+    text: &[u8],
+) -> Result<LoggedTransactions, ReadFault>
     // What the lines of the text mean, the entries denote; no rows event lacks its rows, and between two files nothing lacks.
     ensures found { IfOk result (λ log. IsLog opening.now text.now log.previous log.entries.items log.varied.items) }
     // A refusal names the first line that is refused, and what is wrong with it.

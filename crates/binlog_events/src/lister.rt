@@ -147,7 +147,7 @@ impl EventLister {
 }
 
 /// The word of a fault.
-fn fault_word(kind: FaultKind) -> &'static str
+pub fn fault_word(kind: FaultKind) -> &'static str
     ensures { result.now ≡ fault_word kind }
 {
     match kind {

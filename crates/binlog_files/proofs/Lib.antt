@@ -3,3 +3,4 @@ pub mod Telling
 pub mod Numbered
 pub mod Running
 pub mod Wholes
+pub mod Filed

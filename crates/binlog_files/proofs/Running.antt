@@ -1,12 +1,12 @@
 -- Events of a file are taken, one after another.
-use Rattle.std.proofs.Common.{◌≡◌, ℕ, ◌<◌, Bool, true, false, List, [], ◌∷◌, ◌++◌, length, Option, Some, None, Result, Ok, Err, OnOk, sym, ap, subst, ◌∙◌, inl, inr}
+use Rattle.std.proofs.Common.{◌≡◌, ℕ, Bool, true, false, List, [], ◌∷◌, ◌++◌, Some, Result, Ok, Err, OnOk, ap, subst, ◌∙◌, inr}
 use Rattle.std.proofs.lemmas.List.{append-nil}
 use Rattle.gtid_set.specs.Sets.{Gtids}
 use Rattle.binlog_frames.specs.Spelling.{Framed}
-use Rattle.binlog_frames.specs.Standing.{Standing, front_at, before, begin_of, Follows, EndsBadly}
+use Rattle.binlog_frames.specs.Standing.{Standing, front_at, EndsBadly}
 use Rattle.binlog_frames.specs.Placed.{StaysRead, ReadsOn}
 use Rattle.binlog_files.specs.Taking.{FilesState, and_then, take_event, take_events}
-use Rattle.binlog_files.specs.Files.{HasTaken, IsRefused, HasEventFault, NextTaken, NextStops, TakenOne, AllTaken, AllStop, TakesOn}
+use Rattle.binlog_files.specs.Files.{HasTaken, NextTaken, NextStops, TakenOne, AllTaken, AllStop, TakesOn}
 use Rattle.binlog_files.specs.Moved.{files_state}
 use Rattle.binlog_files.specs.declared.files.LogFiles.{LogFiles}
 use Rattle.binlog_files.specs.declared.fault.FileRefusal.{FileRefusal}

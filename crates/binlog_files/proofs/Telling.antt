@@ -9,10 +9,10 @@ use Rattle.gtid_set.specs.Laws.{HaveNumbers}
 use Rattle.gtid_set.specs.Sets.{Gtids}
 use Rattle.journal.proofs.EntryLemmas.{no_numbers}
 use Rattle.txn_journal.proofs.GtidLaws.{set_found, written_numbers}
-use Rattle.binlog_files.specs.Told.{set_said}
+use Rattle.binlog_files.specs.Told.{set_said, varies}
 use Rattle.binlog_files.specs.declared.fault.FileRefusal.{FileRefusal}
 use Rattle.gtid_set.specs.declared.fault.SetFault.{SetFault}
-use Rattle.log_transactions.specs.Events.{Event, Row}
+use Rattle.log_transactions.specs.Events.{Event, Row, Varies}
 use Rattle.log_transactions.specs.Machine.{LogState, behind, refusal, taken, and_then, runs, TakesOr}
 use Rattle.log_transactions.specs.declared.fault.EventFault.{EventFault}
 use Rattle.log_transactions.specs.declared.fault.EventFault.TheVariants as events
@@ -79,6 +79,20 @@ pub err_told : (fault : FileFault) (old first new : LogState) (e : Event) (es al
     → Tells (Err fault) old (Ok (e ∷ [])) new → Tells (Err fault) first (Ok all) new
 err_told (faults.Set fault) old first new e es all same h = h
 err_told (faults.Refused refusal) old first new e es all same h = sym same ∙ told_refused old e es refusal h
+
+-- ---- varied columns
+
+-- what is left of columns from a place on begins with the column there
+pub left_varied : (log : LogState) (table columns : List ℕ) (i d : ℕ) → i < length columns
+    → told_to log (Ok (varies table (drop i columns))) ≡ told_to log (Ok (Varies table (get_or columns i d) ∷ varies table (drop (i + 1) columns)))
+left_varied log table columns i d below = at_drop_more (λ (cs : List ℕ). told_to log (Ok (varies table cs))) columns i d below
+
+-- what a call told behind an event that was taken
+pub told_behind : (r : Result (Unit {0}) FileFault) (old mid new : LogState) (e : Event) (es : List Event) → refusal old e ≡ None → mid ≡ behind old e
+    → Tells r mid (Ok es) new → Tells r old (Ok (e ∷ es)) new
+told_behind (Ok u) old mid new e es none is h = taken_first old mid e es none is ∙ h
+told_behind (Err (faults.Refused x)) old mid new e es none is h = taken_first old mid e es none is ∙ h
+told_behind (Err (faults.Set f)) old mid new e es none is h = h
 
 -- ---- a previous set
 

@@ -1,3 +1,4 @@
+pub mod Words
 pub mod Settled
 pub mod Statements
 pub mod Tables

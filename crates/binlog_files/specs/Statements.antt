@@ -1,6 +1,6 @@
 -- What the statement of a QUERY tells: the beginning or the end of a transaction, a savepoint, or a flush. Each is a line of mysqlbinlog's
 -- text, too; any other statement is refused.
-use Rattle.std.specs.Prelude.{ℕ, nat_eq, List, [], ◌∷◌, Option, Some, None, Result, Ok, Err, codes, if◌then◌else◌}
+use Rattle.std.specs.Prelude.{ℕ, nat_eq, List, Option, Some, Result, Ok, Err, codes, if◌then◌else◌}
 use Rattle.std.specs.List.{starts_with}
 use Rattle.binlog_text.specs.Lines.{Content, OfMark}
 use Rattle.binlog_text.specs.Reading.{line_of}

@@ -1,14 +1,14 @@
 -- What an event of a file tells of the log, or why it is refused. The numbers of kinds are MySQL's.
-use Rattle.std.specs.Prelude.{ℕ, ◌==◌, ◌||◌, ◌/◌, ◌%◌, nat_le, Bool, List, [], ◌∷◌, length, Option, Some, None, Result, Ok, Err, if◌then◌else◌}
+use Rattle.std.specs.Prelude.{ℕ, ◌==◌, ◌||◌, ◌/◌, ◌%◌, Bool, List, [], ◌∷◌, length, Option, Some, None, Result, Ok, Err, if◌then◌else◌}
 use Rattle.std.specs.FinSet as set
 use Rattle.gtid_text.specs.declared.Gtid.{Gtid}
 use Rattle.gtid_set.specs.Sets.{Gtids}
 use Rattle.journal_words.specs.Gtids.{set_of_word}
-use Rattle.log_transactions.specs.Events.{Event, Opens, Precedes, Names, Commits, Maps, Columns}
+use Rattle.log_transactions.specs.Events.{Event, Opens, Precedes, Names, Commits, Maps, Columns, Varies}
 use Rattle.binlog_frames.specs.Spelling.{Framed}
 use Rattle.binlog_events.specs.Bodies.{query_text, Mapped, mapped, rows_id}
-use Rattle.binlog_events.specs.Gtids.{gtid_of}
 use Rattle.binlog_events.specs.Previous.{previous_text}
+use Rattle.binlog_rows.specs.Collations.{varied_columns}
 use Rattle.binlog_rows.specs.Columns.{columns_of}
 use Rattle.binlog_rows.specs.declared.columns.MappedColumn.{MappedColumn}
 use Rattle.binlog_files.specs.Statements.{statement_told}
@@ -50,17 +50,24 @@ gtid_told (Some gtid) = Ok (Names gtid ∷ [])
 
 -- ---- tables
 
--- a table is mapped that has so many columns
-abbrev pub table_told : Mapped → ℕ → Result (List Event) FileRefusal
-table_told m columns = Ok (Maps m.database m.table ∷ Columns columns ∷ [])
+-- these columns of a table are compared otherwise than by their bytes
+abbrev pub varies : List ℕ → List ℕ → List Event
+varies table [] = []
+varies table (column ∷ columns) = Varies table column ∷ varies table columns
 
-abbrev pub columns_told : Mapped → Option (List MappedColumn) → Result (List Event) FileRefusal
-columns_told m None = Err refusals.Type
-columns_told m (Some columns) = table_told m (length columns)
+-- a table is mapped that has so many columns, of which these are compared otherwise than by their bytes
+abbrev pub table_told : Mapped → ℕ → List ℕ → Result (List Event) FileRefusal
+table_told m columns varied = Ok (Maps m.database m.table ∷ Columns columns ∷ varies m.table varied)
 
-abbrev pub map_told : Option Mapped → Option (List MappedColumn) → Result (List Event) FileRefusal
-map_told None columns = Err refusals.Format
-map_told (Some m) columns = columns_told m columns
+-- the same, where the map says the columns, their signs and their collations
+abbrev pub columns_told : Mapped → Option (List MappedColumn) → Option (List ℕ) → Result (List Event) FileRefusal
+columns_told m None varied = Err refusals.Type
+columns_told m (Some columns) None = Err refusals.Metadata
+columns_told m (Some columns) (Some varied) = table_told m (length columns) varied
+
+abbrev pub map_told : Option Mapped → Option (List MappedColumn) → Option (List ℕ) → Result (List Event) FileRefusal
+map_told None columns varied = Err refusals.Format
+map_told (Some m) columns varied = columns_told m columns varied
 
 -- ---- rows
 
@@ -108,7 +115,7 @@ unfoldable pub told : Tables → Framed → Result (List Event) FileRefusal
 told tables e =
     if e.kind == 2 then query_told (query_text e.body)
     else if e.kind == 16 then xid_told e.body
-    else if e.kind == 19 then map_told (mapped e.body) (columns_of e.body)
+    else if e.kind == 19 then map_told (mapped e.body) (columns_of e.body) (varied_columns e.body)
     else if e.kind == 35 then previous_told (previous_text e.body)
     else if is_rows e.kind then id_told tables e.kind e.body (rows_id e.body)
     else other_told e.kind e.flags

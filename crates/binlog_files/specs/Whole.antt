@@ -1,8 +1,10 @@
 -- The files of a whole log, and what their events tell.
-use Rattle.std.specs.Prelude.{◌≡◌, ℕ, ◌==◌, ◌&&◌, not, Bool, true, false, List, [], ◌∷◌, ◌++◌, Option, Some, None, Result, Ok, Err, if◌then◌else◌}
+use Rattle.std.specs.Prelude.{◌≡◌, ◌⊎◌, ℕ, ◌+◌, ◌==◌, ◌&&◌, not, Bool, true, false, List, [], ◌∷◌, ◌++◌, length, Option, Some, None, Result, Ok, Err, if◌then◌else◌}
 use Rattle.std.specs.FinSet as set
+use Rattle.std.specs.List.{list_any}
 use Rattle.gtid_text.specs.declared.Gtid.{Gtid}
 use Rattle.gtid_set.specs.Sets.{Gtids}
+use Rattle.gtid_set.specs.declared.fault.SetFault.TheVariants.{Memory}
 use Rattle.journal.specs.declared.Entry.{Entry}
 use Rattle.log_transactions.specs.Events.{Event, Names}
 use Rattle.log_transactions.specs.Machine.{is_idle}
@@ -10,9 +12,11 @@ use Rattle.log_transactions.specs.Meaning.{AreOfLog}
 use Rattle.log_transactions.specs.declared.fault.EventRefusal.TheVariants.{Transaction}
 use Rattle.log_transactions.specs.declared.varied.Varied.{Varied}
 use Rattle.binlog_frames.specs.Spelling.{Framed}
-use Rattle.binlog_frames.specs.Standing.{Standing, before, begin_of, Follows, EndsWell}
+use Rattle.binlog_frames.specs.Reading.{is_checked}
+use Rattle.binlog_frames.specs.Standing.{Standing, front_at, passed, before, begin_of, EndsWell}
+use Rattle.binlog_frames.specs.declared.fault.FrameFault.{FrameFault}
 use Rattle.binlog_events.specs.Gtids.{gtid_of}
-use Rattle.binlog_files.specs.Files.{HasTaken, HasCome, IsDamaged}
+use Rattle.binlog_files.specs.Files.{HasTaken, HasCome, IsDamaged, Stops}
 use Rattle.binlog_files.specs.Moved.{files_state}
 use Rattle.binlog_files.specs.Taking.{FilesState, is_outside, start, take_event, take_events}
 use Rattle.binlog_files.specs.Told.{told}
@@ -21,6 +25,7 @@ use Rattle.binlog_files.specs.declared.fault.FileRefusal.TheVariants as refusals
 use Rattle.binlog_files.specs.declared.files.FilesFault.{FilesFault}
 use Rattle.binlog_files.specs.declared.files.FilesFault.TheVariants as faults
 use Rattle.binlog_files.specs.declared.files.LogFiles.{LogFiles}
+use Rattle.binlog_files.specs.declared.whole.FiledFault.{FiledFault}
 
 -- ---- what events tell
 
@@ -71,6 +76,43 @@ abbrev pub IsLogOfFiles : FilesState → Gtids → List Entry → List Varied �
 IsLogOfFiles to previous entries varied =
     (opening : Gtids) (files : List (List ℕ)) (tells : List Event) → TakesFiles opening (start opening) files tells to → AreOfLog opening tells previous entries varied
 
+abbrev pub is_previous : Result (Option Framed) FrameFault → Bool
+is_previous (Ok (Some e)) = e.kind == 35
+is_previous _ = false
+
+abbrev pub behind_front : Standing → Result (Option Framed) FrameFault → Standing
+behind_front s (Ok (Some d)) = passed s d
+behind_front s _ = s
+
+-- behind the first event of the file whose bytes these are
+abbrev pub second_at : List ℕ → Standing
+second_at bytes = behind_front (before bytes) (front_at (before bytes))
+
+-- where the second event of that file begins, if it is no PREVIOUS_GTIDS, or would begin, if there is none
+abbrev pub unlisted_at : List ℕ → Option ℕ
+unlisted_at bytes = if is_previous (front_at (second_at bytes)) then None else Some (begin_of (second_at bytes))
+
+abbrev pub is_unlisted : List ℕ → Bool
+is_unlisted bytes = not (is_previous (front_at (second_at bytes)))
+
+-- These files, one after another, are a log with these entries: they are taken from the first state on, and what they tell is of such a log,
+-- by the rules of log_transactions; and the second event of each file is its previous set. No files are a log without entries.
+pub record AreFilesOf (opening : Gtids) (files : List (List ℕ)) (previous : Gtids) (entries : List Entry) (varied : List Varied) : Type 0 where
+  pub tells : List Event
+  pub last : FilesState
+  pub taken : TakesFiles opening (start opening) files tells last
+  pub log : AreOfLog opening tells previous entries varied
+  pub begin : list_any is_unlisted files ≡ false
+
+-- the FORMAT_DESCRIPTION says that the events behind it have no checksums
+abbrev pub says_unchecked : Result (Option Framed) FrameFault → Bool
+says_unchecked (Ok (Some d)) = not (is_checked d)
+says_unchecked _ = false
+
+-- the same of that of the file whose bytes these are
+abbrev pub has_no_checksums : List ℕ → Bool
+has_no_checksums bytes = says_unchecked (front_at (before bytes))
+
 -- ---- calls
 
 -- the file ends within a transaction, behind events that were taken
@@ -98,3 +140,51 @@ EndsFile old new = (opening : Gtids) (from : FilesState) (bytes : List ℕ) → 
 
 abbrev pub StopsFile : LogFiles → FilesFault → Type 0
 StopsFile old fault = (opening : Gtids) (from : FilesState) (bytes : List ℕ) → HasCome opening from bytes old → StopsAtEnd opening from bytes fault
+
+-- ---- files that are there whole
+
+-- its second event is no PREVIOUS_GTIDS, or there was no memory to look at it
+abbrev pub IsUnlisted : List ℕ → FilesFault → Type 0
+IsUnlisted bytes (faults.Set fault) = fault ≡ Memory
+IsUnlisted bytes (faults.Damaged fault) = ⊥
+IsUnlisted bytes (faults.Refused offset refusal) = (refusal ≡ refusals.Previous) × (unlisted_at bytes ≡ Some offset)
+
+-- why a file isn't taken, behind this state
+abbrev pub StopsInFile : Gtids → FilesState → List ℕ → FilesFault → Type 0
+StopsInFile opening from bytes fault = Stops opening from bytes fault ⊎ (StopsAtEnd opening from bytes fault ⊎ IsUnlisted bytes fault)
+
+-- the file of this number, counted from 1, isn't taken, behind those before it
+pub record StopsAtFile (opening : Gtids) (files : List (List ℕ)) (file : ℕ) (fault : FilesFault) : Type 0 where
+  pub taken : List (List ℕ)
+  pub bytes : List ℕ
+  pub others : List (List ℕ)
+  pub parts : files ≡ taken ++ bytes ∷ others
+  pub number : file ≡ length taken + 1
+  pub tells : List Event
+  pub state : FilesState
+  pub behind : TakesFiles opening (start opening) taken tells state
+  pub stops : StopsInFile opening state bytes fault
+
+-- the same, or there was no memory to begin
+abbrev pub StopsInFiles : Gtids → List (List ℕ) → FiledFault → Type 0
+StopsInFiles opening files f = ((f.file ≡ 1) × (f.fault ≡ faults.Set Memory)) ⊎ StopsAtFile opening files f.file f.fault
+
+-- a file is taken whole, and whether it has no checksums
+pub record HasFile (opening : Gtids) (from : FilesState) (bytes : List ℕ) (new : LogFiles) (is_unchecked : Bool) : Type 0 where
+  pub ended : HasEnded opening from bytes new
+  pub begins : is_unlisted bytes ≡ false
+  pub checks : is_unchecked ≡ has_no_checksums bytes
+
+abbrev pub TakesWhole : Gtids → LogFiles → List ℕ → LogFiles → Bool → Type 0
+TakesWhole opening old bytes new is_unchecked = (from : FilesState) → HasCome opening from [] old → HasFile opening from bytes new is_unchecked
+
+abbrev pub StopsWhole : Gtids → LogFiles → List ℕ → FilesFault → Type 0
+StopsWhole opening old bytes fault = (from : FilesState) → HasCome opening from [] old → StopsInFile opening from bytes fault
+
+-- files were taken whole, from the first state on, and whether one of them has no checksums
+pub record HaveFiles (opening : Gtids) (files : List (List ℕ)) (l : LogFiles) (is_unchecked : Bool) : Type 0 where
+  pub tells : List Event
+  pub taken : TakesFiles opening (start opening) files tells (files_state l.taken)
+  pub come : HasCome opening (files_state l.taken) [] l
+  pub begin : list_any is_unlisted files ≡ false
+  pub checks : is_unchecked ≡ list_any has_no_checksums files

@@ -1,6 +1,7 @@
 //! Why an event of a file is not taken.
 ghost use Rattle.std.specs.Prelude.{◌≡◌};
 ghost use Rattle.gtid_set.specs.declared.fault.SetFault.TheVariants.{Memory};
+ghost use Rattle.binlog_files.specs.Words.{event_word};
 ghost use Rattle.binlog_files.specs.declared.fault.FileFault.TheVariants.{Set};
 
 use gtid_set::SetFault;
@@ -14,6 +15,8 @@ pub enum FileRefusal {
     Event(EventRefusal),
     /// The body is not in the form of its kind.
     Format,
+    /// The second event of a file is no PREVIOUS_GTIDS.
+    Previous,
     /// A statement other than BEGIN, COMMIT, a savepoint and a flush.
     Statement,
     /// A distributed transaction.
@@ -28,10 +31,49 @@ pub enum FileRefusal {
     Partial,
     /// A column of a type whose values are not read.
     Type,
+    /// The map of a table doesn't say its signs or collations: the server is older than 8.0.1.
+    Metadata,
     /// A value that has no form in a bundle.
     Value,
     /// A kind of event that is unknown, and may not be passed over.
     Kind,
+}
+
+fn event_word(refusal: EventRefusal) -> &'static str
+    ensures { result.now ≡ event_word refusal }
+{
+    match refusal {
+        EventRefusal::Gtid => "gtid",
+        EventRefusal::Transaction => "transaction",
+        EventRefusal::Table => "table",
+        EventRefusal::Columns => "columns",
+        EventRefusal::Gap => "gap",
+    }
+}
+
+impl FileRefusal {
+    ghost use Rattle.binlog_files.specs.Words.{word_of};
+
+    /// The word that names it; where a text's import has a word for the same, it is that one.
+    pub fn word(self) -> &'static str
+        ensures { result.now ≡ word_of self }
+    {
+        match self {
+            FileRefusal::Event(refusal) => event_word(refusal),
+            FileRefusal::Format => "format",
+            FileRefusal::Previous => "previous",
+            FileRefusal::Statement => "statement",
+            FileRefusal::Xa => "xa",
+            FileRefusal::Gtid => "gtid",
+            FileRefusal::Incident => "incident",
+            FileRefusal::Compressed => "compressed",
+            FileRefusal::Partial => "partial",
+            FileRefusal::Type => "type",
+            FileRefusal::Metadata => "metadata",
+            FileRefusal::Value => "value",
+            FileRefusal::Kind => "kind",
+        }
+    }
 }
 
 /// Why an event of a file is not taken.

@@ -90,7 +90,8 @@ fn drain(
 }
 
 impl LogFiles {
-    ghost use Rattle.std.specs.Prelude.{[]};
+    ghost use Rattle.std.specs.Prelude.{[], ◌==◌};
+    ghost use Rattle.binlog_frames.specs.Standing.{tail_of};
     ghost use Rattle.gtid_set.specs.Sets.{Gtids};
     ghost use Rattle.binlog_files.specs.Files.{HasCome};
     ghost use Rattle.binlog_files.specs.Taking.{start};
@@ -131,6 +132,13 @@ impl LogFiles {
         };
         self.frames = FrameReader::new(alloc);
         Ok(())
+    }
+
+    /// Whether the events of this file have no checksums, by its FORMAT_DESCRIPTION, if that has come.
+    pub(crate) fn is_unchecked(&self) -> bool
+        ensures { result ≡ (tail_of self.now.frames == 0) }
+    {
+        self.frames.tail() == 0
     }
 
     /// What the files that were taken have: the set that was executed before, the entries in order, and the columns that are compared otherwise

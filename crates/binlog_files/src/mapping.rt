@@ -1,31 +1,76 @@
 //! What the event that maps a table tells the log.
-ghost use Rattle.std.specs.Prelude.{◌≡◌, OnOk, Some};
+ghost use Rattle.std.specs.Prelude.{◌≡◌, ℕ, List, [], ◌∷◌, Ok, OnOk, Some};
 ghost use Rattle.binlog_events.specs.Bodies.{mapped, mapped_table};
 ghost use Rattle.binlog_files.specs.Tables.{tables_in, HasTables, with_columns, with_mapped};
 ghost use Rattle.binlog_files.specs.Taking.{Tells};
-ghost use Rattle.binlog_files.specs.Told.{table_told, columns_told, map_told};
+ghost use Rattle.binlog_files.specs.Told.{varies, table_told, columns_told, map_told};
+ghost use Rattle.binlog_rows.specs.Collations.{varied_columns};
 ghost use Rattle.binlog_rows.specs.Columns.{columns_of};
+ghost use Rattle.log_transactions.specs.Events.{Columns, Varies};
 ghost use Rattle.log_transactions.specs.States.{state};
 
 use crate::bodies::settled;
 use crate::fault::{FileFault, FileRefusal};
 use crate::tables::{FileTable, FileTables};
 use binlog_events::{NamedTable, mapped};
-use binlog_rows::{MappedColumn, read_columns};
-use log_transactions::LogTransactions;
+use binlog_rows::{MappedColumn, read_columns, varied_columns};
+use log_transactions::{EventRefusal, LogTransactions};
+use rows::Name;
 use std::alloc::{AllocError, Global};
 
-/// Tells a log the table that is mapped, and the number of its columns.
+/// Tells a log a column of a table of this name that is compared otherwise than by its bytes.
+fn tell_column(log: &mut LogTransactions, table: &Name, column: usize) -> Result<(), FileFault>
+    ensures { Tells result (state log.old) (Ok (Varies table.now column ∷ [])) (state log.new) }
+{
+    let name = table.clone()?;
+    log.vary(name, column)?;
+    Ok(())
+}
+
+/// Tells a log the columns of a table of this name that are compared otherwise than by their bytes.
+fn tell_varied(log: &mut LogTransactions, table: &Name, varied: &[usize]) -> Result<(), FileFault>
+    ensures { Tells result (state log.old) (Ok (varies table.now varied.now)) (state log.new) }
+{
+    for column in varied {
+        match tell_column(log, table, *column) {
+            Ok(()) => {}
+            Err(fault) => return Err(fault),
+        }
+    }
+    Ok(())
+}
+
+/// Tells a log the number of columns of the table that is mapped, and those that are compared otherwise than by their bytes.
+fn tell_columns(
+    log: &mut LogTransactions,
+    columns: usize,
+    varied: &[usize],
+) -> Result<(), FileFault>
+    ensures { (table : List ℕ) → (state log.old).mapping ≡ Some table
+        → Tells result (state log.old) (Ok (Columns columns ∷ varies table varied.now)) (state log.new) }
+{
+    let Some(name) = log.mapped() else {
+        return Err(FileFault::Refused(FileRefusal::Event(EventRefusal::Table)));
+    };
+    let name = name.clone()?;
+    match settled(log.take_columns(columns)) {
+        Ok(()) => tell_varied(log, &name, varied),
+        Err(fault) => Err(fault),
+    }
+}
+
+/// Tells a log the table that is mapped, the number of its columns, and those that are compared otherwise than by their bytes.
 fn tell_table(
     alloc: Global,
     log: &mut LogTransactions,
     found: &NamedTable<'_>,
     columns: usize,
+    varied: &[usize],
 ) -> Result<(), FileFault>
-    ensures { Tells result (state log.old) (table_told (mapped_table found.now) columns) (state log.new) }
+    ensures { Tells result (state log.old) (table_told (mapped_table found.now) columns varied.now) (state log.new) }
 {
     match settled(log.map_table(alloc, found.database, found.table)) {
-        Ok(()) => settled(log.take_columns(columns)),
+        Ok(()) => tell_columns(log, columns, varied),
         Err(fault) => Err(fault),
     }
 }
@@ -59,13 +104,17 @@ fn take_table(
     found: &NamedTable<'_>,
     body: &[u8],
 ) -> Result<(), FileFault>
-    ensures told { Tells result (state log.old) (columns_told (mapped_table found.now) (columns_of body.now)) (state log.new) }
+    ensures told { Tells result (state log.old)
+        (columns_told (mapped_table found.now) (columns_of body.now) (varied_columns body.now)) (state log.new) }
     ensures kept { OnOk result (HasTables tables.new (with_columns (mapped_table found.now) (columns_of body.now) (tables_in tables.old))) }
 {
     let Some(columns) = read_columns(alloc, body)? else {
         return Err(FileFault::Refused(FileRefusal::Type));
     };
-    match tell_table(alloc, log, found, columns.len()) {
+    let Some(varied) = varied_columns(alloc, body)? else {
+        return Err(FileFault::Refused(FileRefusal::Metadata));
+    };
+    match tell_table(alloc, log, found, columns.len(), &varied) {
         Ok(()) => {}
         Err(fault) => return Err(fault),
     }
@@ -80,7 +129,7 @@ pub(crate) fn take_map(
     tables: &mut FileTables,
     body: &[u8],
 ) -> Result<(), FileFault>
-    ensures told { Tells result (state log.old) (map_told (mapped body.now) (columns_of body.now)) (state log.new) }
+    ensures told { Tells result (state log.old) (map_told (mapped body.now) (columns_of body.now) (varied_columns body.now)) (state log.new) }
     ensures kept { OnOk result (HasTables tables.new (with_mapped (mapped body.now) body.now (tables_in tables.old))) }
 {
     match mapped(body) {

@@ -1,4 +1,9 @@
 pub mod Walks
+pub mod OptionWalks
 pub mod SignWalks
+pub mod CollationWalks
 pub mod DigitWalks
 pub mod ReadWalks
+pub mod TextWalks
+pub mod JsonWalks
+pub mod DoubleWalks

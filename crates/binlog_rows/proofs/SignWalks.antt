@@ -1,37 +1,10 @@
--- One step of each walk over optional metadata, and over the columns that get their signs.
-use Rattle.std.proofs.Common.{◌≡◌, ℕ, suc, ◌+◌, ◌<◌, ◌≤◌, Bool, true, false, cond, List, [], ◌∷◌, ◌++◌, length, get_or, drop, Option, Some, None, sym, ap, ◌∙◌, append_assoc, arith, nat_eq}
+-- One step of each walk over columns that get their signs.
+use Rattle.std.proofs.Common.{◌≡◌, ℕ, ◌+◌, ◌<◌, ◌≤◌, List, [], ◌∷◌, ◌++◌, length, get_or, drop, sym, ap, ◌∙◌, append_assoc, arith}
 use Rattle.std.proofs.lemmas.List.{drop_more, append-nil, drop_all}
 use Rattle.std.proofs.lemmas.Bool.Decides.{nat_tests}
 use Rattle.binlog_rows.specs.declared.columns.MappedColumn.{MappedColumn}
 use Rattle.binlog_rows.specs.declared.columns.Signedness.{Signedness}
-use Rattle.binlog_rows.specs.Signs.{FieldBytes, field_at, signedness_or, signedness_from, sign_at, with_sign, place_behind, signed_from}
-
--- ---- the field
-
-field_step : (m n : ℕ) (bytes : List ℕ) (o : Option FieldBytes) → suc n ≡ m → o ≡ field_at bytes
-    → signedness_or (signedness_from n) o ≡ signedness_from m bytes
-unfolding signedness_from
-field_step m n bytes o is e =
-    ap (λ (o : Option FieldBytes). signedness_or (signedness_from n) o) e ∙ ap (λ (fuel : ℕ). signedness_from fuel bytes) is
-
-pub field_none : (m n : ℕ) (bytes : List ℕ) → suc n ≡ m → None ≡ field_at bytes → [] ≡ signedness_from m bytes
-field_none m n bytes is e = field_step m n bytes None is e
-
-pub field_found : (m n : ℕ) (bytes : List ℕ) (f : FieldBytes) → suc n ≡ m → Some f ≡ field_at bytes → nat_eq f.kind 1 ≡ true
-    → f.content ≡ signedness_from m bytes
-field_found m n bytes f is e one =
-    ap (λ (b : Bool). cond b f.content (signedness_from n f.behind)) (sym one) ∙ field_step m n bytes (Some f) is e
-
-pub field_other : (m n : ℕ) (bytes : List ℕ) (f : FieldBytes) → suc n ≡ m → Some f ≡ field_at bytes → nat_eq f.kind 1 ≡ false
-    → signedness_from n f.behind ≡ signedness_from m bytes
-field_other m n bytes f is e other =
-    ap (λ (b : Bool). cond b f.content (signedness_from n f.behind)) (sym other) ∙ field_step m n bytes (Some f) is e
-
-pub field_end : (m : ℕ) (bytes : List ℕ) → 0 ≡ m → [] ≡ signedness_from m bytes
-unfolding signedness_from
-field_end m bytes is = ap (λ (fuel : ℕ). signedness_from fuel bytes) is
-
--- ---- the columns
+use Rattle.binlog_rows.specs.Signs.{sign_at, with_sign, place_behind, signed_from, numbered_from}
 
 pub place_within : (column : MappedColumn) (place next i : ℕ) → next ≡ place_behind column place → place ≤ i → next ≤ i + 1
 place_within column place next i is le = grind (arith, nat_tests)
@@ -59,3 +32,14 @@ pub signed_all : (bits : List ℕ) (place i : ℕ) (all before : List MappedColu
 unfolding signed_from
 signed_all bits place i all before le =
     sym (append-nil before) ∙ ap (λ columns. before ++ signed_from bits place columns) (sym (drop_all i all le))
+
+-- ---- places of numeric columns
+
+pub numbered_on : (place i : ℕ) (all : List MappedColumn) (d : MappedColumn) → i < length all
+    → numbered_from (place_behind (get_or all i d) place) (drop (i + 1) all) ≡ numbered_from place (drop i all)
+unfolding numbered_from
+numbered_on place i all d lt = ap (λ columns. numbered_from place columns) (sym (drop_more all i d lt))
+
+pub numbered_all : (place i : ℕ) (all : List MappedColumn) → length all ≤ i → place ≡ numbered_from place (drop i all)
+unfolding numbered_from
+numbered_all place i all le = ap (λ columns. numbered_from place columns) (sym (drop_all i all le))

@@ -1,10 +1,16 @@
 pub mod Numbers
+pub mod Options
 pub mod Signs
 pub mod Columns
+pub mod Collations
 pub mod Images
 pub mod Rows
 pub mod Digits
 pub mod Times
 pub mod Decimals
+pub mod Texts
+pub mod Doubles
+pub mod Scalars
+pub mod Json
 pub mod Values
 pub mod Reading

@@ -1,42 +1,21 @@
 -- Whether the numbers of columns have a sign, by the optional metadata of a TABLE_MAP.
-use Rattle.std.specs.Prelude.{ℕ, zero, suc, ◌+◌, ◌-◌, ◌/◌, ◌%◌, ◌^◌, ◌==◌, nat_lt, Bool, true, false, List, [], ◌∷◌, length, slice_index, Option, Some, None, if◌then◌else◌}
-use Rattle.binlog_rows.specs.Numbers.{and_then, split, packed}
+use Rattle.std.specs.Prelude.{ℕ, ◌+◌, ◌-◌, ◌/◌, ◌%◌, ◌^◌, ◌==◌, nat_lt, nat_le, Bool, true, false, List, [], ◌∷◌, length, slice_index, Option, Some, None, if◌then◌else◌}
+use Rattle.binlog_rows.specs.Numbers.{bits_width}
+use Rattle.binlog_rows.specs.Options.{content_of}
 use Rattle.binlog_rows.specs.declared.columns.MappedColumn.{MappedColumn}
 use Rattle.binlog_rows.specs.declared.columns.MappedColumn.TheVariants.{Integer, Float, Double, Decimal, Year}
 use Rattle.binlog_rows.specs.declared.columns.Signedness.{Signedness}
 use Rattle.binlog_rows.specs.declared.columns.Signedness.TheVariants.{Unknown, Signed, Unsigned}
-use Rattle.binlog_rows.specs.declared.signs.OptionalField.{OptionalField}
 
 -- ---- the field
 
--- a field of the optional metadata, and what is behind it
-pub record FieldBytes : Type 0 where
-  pub kind : ℕ
-  pub content : List ℕ
-  pub behind : List ℕ
+abbrev pub or_nothing : Option (List ℕ) → List ℕ
+or_nothing None = []
+or_nothing (Some bytes) = bytes
 
--- the field at the front: a byte of its kind, the length of its content, packed, and that
-unfoldable pub field_by : ℕ → List ℕ → Option FieldBytes
-field_by kind bytes =
-    and_then (packed bytes) (λ len. and_then (split len.0 len.1) (λ p. Some (record { kind = kind; content = p.0; behind = p.1 })))
-
-abbrev pub field_at : List ℕ → Option FieldBytes
-field_at [] = None
-field_at (kind ∷ bytes) = field_by kind bytes
-
--- the content of SIGNEDNESS, which is field 1, if it is this one, or else what comes later
-abbrev pub signedness_or : (List ℕ → List ℕ) → Option FieldBytes → List ℕ
-signedness_or later None = []
-signedness_or later (Some f) = if f.kind == 1 then f.content else later f.behind
-
--- the content of SIGNEDNESS among up to so many fields; nothing where there is none
-unfoldable pub signedness_from : ℕ → List ℕ → List ℕ
-signedness_from zero bytes = []
-signedness_from (suc n) bytes = signedness_or (signedness_from n) (field_at bytes)
-
--- the same among all fields: a field takes a byte at least
+-- the content of SIGNEDNESS, which is field 1; nothing where there is none
 abbrev pub signedness_of : List ℕ → List ℕ
-signedness_of bytes = signedness_from (length bytes) bytes
+signedness_of bytes = or_nothing (content_of 1 bytes)
 
 -- ---- the bits
 
@@ -68,6 +47,11 @@ unfoldable pub signed_from : List ℕ → ℕ → List MappedColumn → List Map
 signed_from bits place [] = []
 signed_from bits place (column ∷ columns) = with_sign (sign_at bits place) column ∷ signed_from bits (place_behind column place) columns
 
--- what the code gives
-abbrev pub field_view : OptionalField → FieldBytes
-field_view f = record { kind = f.kind; content = f.content.now; behind = f.behind.now }
+-- where the next numeric column behind these is, the first of which has this place
+unfoldable pub numbered_from : ℕ → List MappedColumn → ℕ
+numbered_from place [] = place
+numbered_from place (column ∷ columns) = numbered_from (place_behind column place) columns
+
+-- each numeric column has a bit
+abbrev pub has_signs : List ℕ → List MappedColumn → Bool
+has_signs bits columns = nat_le (bits_width (numbered_from 0 columns)) (length bits)

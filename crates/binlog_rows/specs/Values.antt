@@ -14,6 +14,7 @@ use Rattle.binlog_rows.specs.Images.{ValueBytes, layout_of}
 use Rattle.binlog_rows.specs.Digits.{is_zero, byte_digits}
 use Rattle.binlog_rows.specs.Times.{date_of, time_of, datetime_of, timestamp_of}
 use Rattle.binlog_rows.specs.Decimals.{decimal_of}
+use Rattle.binlog_rows.specs.Json.{json_text}
 
 -- ---- numbers
 
@@ -78,7 +79,7 @@ timestamp_value digits bytes =
 
 -- ---- values
 
--- FLOAT and DOUBLE are the bytes of their IEEE form, the sign's first; JSON has no form here
+-- FLOAT and DOUBLE are the bytes of their IEEE form, the sign's first; JSON is the text of the document
 unfoldable pub value_by_type : MappedColumn → List ℕ → Option Value
 value_by_type (columns.Integer width sign) bytes = integer_value width sign bytes
 value_by_type columns.Float bytes = Some (Bytes (reverse bytes))
@@ -93,7 +94,7 @@ value_by_type (columns.Timestamp digits) bytes = timestamp_value digits bytes
 value_by_type (columns.Char most) bytes = short_value most bytes
 value_by_type (columns.Varchar most) bytes = short_value most bytes
 value_by_type (columns.Blob width) bytes = Some (Bytes bytes)
-value_by_type (columns.Json width) bytes = None
+value_by_type (columns.Json width) bytes = option_map Bytes (json_text bytes)
 value_by_type (columns.Geometry width) bytes = Some (Bytes bytes)
 value_by_type (columns.Vector width) bytes = Some (Bytes bytes)
 value_by_type (columns.Enum width) bytes = whole_value (low_number bytes)

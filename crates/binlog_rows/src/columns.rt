@@ -180,7 +180,7 @@ fn column_at(kind: u8, metadata: &[u8]) -> Option<(MappedColumn, &[u8])>
 }
 
 /// The columns of these types, whose metadata this is.
-fn columns_from(
+pub(crate) fn columns_from(
     alloc: Global,
     kinds: &[u8],
     metadata: &[u8],
@@ -205,11 +205,11 @@ fn columns_from(
 
 /// The types of columns, and their metadata.
 #[derive(Drop)]
-struct ColumnBytes<'a> {
-    kinds: &'a [u8],
-    metadata: &'a [u8],
+pub(crate) struct ColumnBytes<'a> {
+    pub(crate) kinds: &'a [u8],
+    pub(crate) metadata: &'a [u8],
     /// The optional metadata.
-    options: &'a [u8],
+    pub(crate) options: &'a [u8],
 }
 
 /// The metadata of columns of these types, from its length on.
@@ -266,7 +266,7 @@ fn behind_name(bytes: &[u8]) -> Option<&[u8]>
 
 /// What the body of a TABLE_MAP says of columns.
 #[tactic(auto, unfolding(crate::specs::Columns::described))]
-fn described(body: &[u8]) -> Option<ColumnBytes<'_>>
+pub(crate) fn described(body: &[u8]) -> Option<ColumnBytes<'_>>
     ensures { option_map bytes_view result ≡ described body.now }
 {
     let Some(database) = behind(8, body) else {

@@ -1,62 +1,20 @@
 //! Whether the numbers of columns have a sign.
-ghost use Rattle.std.specs.Prelude.{◌≡◌, ◌<◌, ◌^◌, option_map, IfOk};
-ghost use Rattle.binlog_rows.specs.Signs.{field_by, field_at, field_view, signedness_of, sign_at, is_numeric, with_sign, place_behind, signed_from};
+ghost use Rattle.std.specs.Prelude.{◌≡◌, ◌<◌, ◌≤◌, ◌^◌, length, IfOk};
+ghost use Rattle.binlog_rows.specs.Signs.{signedness_of, sign_at, is_numeric, with_sign, place_behind, signed_from, numbered_from, has_signs};
 
 use crate::columns::{MappedColumn, Signedness};
-use crate::numbers::{packed, split};
+use crate::numbers::bits_width;
+use crate::options::content_in;
 use std::alloc::{AllocError, Global};
-
-/// A field of the optional metadata, and what is behind it.
-#[derive(Drop)]
-struct OptionalField<'a> {
-    kind: u8,
-    content: &'a [u8],
-    behind: &'a [u8],
-}
-
-/// The field of this kind whose length is at the front.
-#[tactic(auto, unfolding(crate::specs::Signs::field_by))]
-fn field_by(kind: u8, bytes: &[u8]) -> Option<OptionalField<'_>>
-    ensures { option_map field_view result ≡ field_by kind bytes.now }
-{
-    let Some((len, rest)) = packed(bytes) else {
-        return None;
-    };
-    let Some((content, behind)) = split(len, rest) else {
-        return None;
-    };
-    Some(OptionalField {
-        kind,
-        content,
-        behind,
-    })
-}
-
-/// The field at the front.
-fn field_at(bytes: &[u8]) -> Option<OptionalField<'_>>
-    ensures { option_map field_view result ≡ field_at bytes.now }
-{
-    let Some((kind, rest)) = bytes.split_first() else {
-        return None;
-    };
-    field_by(*kind, rest)
-}
 
 /// The content of SIGNEDNESS among the optional metadata; nothing where it isn't there.
 pub(crate) fn signedness_in(bytes: &[u8]) -> &[u8]
     ensures { result.now ≡ signedness_of bytes.now }
 {
-    let mut rest = bytes;
-    for count in 0..bytes.len() {
-        let Some(field) = field_at(rest) else {
-            return &bytes[..0];
-        };
-        if field.kind == 1 {
-            return field.content;
-        }
-        rest = field.behind;
+    match content_in(1, bytes) {
+        Some(bits) => bits,
+        None => &bytes[..0],
     }
-    &bytes[..0]
 }
 
 /// Whether the numeric column at this place has a sign.
@@ -120,4 +78,23 @@ pub(crate) fn signed(
         place = place_behind(*column, place);
     }
     Ok(found)
+}
+
+/// How many of the columns are numeric.
+fn numeric_count(columns: &[MappedColumn]) -> usize
+    ensures count { result ≡ numbered_from 0 columns.now }
+    ensures bound { result ≤ length columns.now }
+{
+    let mut place = 0;
+    for column in columns {
+        place = place_behind(*column, place);
+    }
+    place
+}
+
+/// Whether these bits have one for each numeric column.
+pub(crate) fn has_signs(bits: &[u8], columns: &[MappedColumn]) -> bool
+    ensures { result ≡ has_signs bits.now columns.now }
+{
+    bits_width(numeric_count(columns) as u64) <= bits.len() as u64
 }

@@ -7,6 +7,7 @@ use crate::columns::{MappedColumn, Signedness};
 use crate::decimals::decimal_value;
 use crate::digits::{are_zeros, bits_text, bytes_value, copied_value};
 use crate::images::{Layout, layout_of};
+use crate::json::json_value;
 use crate::numbers::{high_number, low_number};
 use crate::times::{date_value, datetime_value, time_value, timestamp_value};
 use row_images::Value;
@@ -166,7 +167,7 @@ fn value_by_type(
         MappedColumn::Blob(_) | MappedColumn::Geometry(_) | MappedColumn::Vector(_) => Ok(Some(
             copied_value(alloc, bytes)?,
         )),
-        MappedColumn::Json(_) => Ok(None),
+        MappedColumn::Json(_) => json_value(alloc, bytes),
     }
 }
 
@@ -183,9 +184,13 @@ fn lies_so(layout: Layout, len: usize) -> bool
 /// The value that these bytes are in a column, as an import of mysqlbinlog's text has it: numbers of INTEGER types, YEAR and ENUM, and of
 /// TIMESTAMP without a fraction; else a string of bytes, which is the text that mysqlbinlog prints of a time, a DECIMAL and bits, and the
 /// bytes themselves of a string. FLOAT and DOUBLE are the bytes of their IEEE form, the sign's first, GEOMETRY and VECTOR those of the log.
+/// JSON is the text of the document, as a server prints it (`CAST(.. AS CHAR)`): members in the order of the binary form, by which servers
+/// sort them, and the bytes of strings as they are, whether they are UTF-8 or not.
 ///
-/// `None` for JSON, for integers of which the map doesn't say whether they have a sign, for those from 2^63 on, and where the bytes are not
-/// in the one form that the server writes: a part of a time that is too large, -0, a digit too many, more bytes than the column holds.
+/// `None` for a JSON that has a value of an SQL type in it, a double that a server prints with an exponent, more than 100 levels, or a text
+/// of more than 6 times its bytes; for integers of which the map doesn't say whether they have a sign, for those from 2^63 on; and where the
+/// bytes are not in the one form that the server writes: a part of a time that is too large, -0, a digit too many, more bytes than the column
+/// holds.
 #[tactic(auto, unfolding(crate::specs::Values::value_of))]
 pub fn value_of(
     alloc: Global,

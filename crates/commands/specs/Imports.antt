@@ -1,5 +1,8 @@
 -- What `import` writes. The lines are our own.
-use Rattle.std.specs.Prelude.{◌≡◌, ◌⊎◌, ℕ, ◌+◌, ◌-◌, ◌^◌, min, Bool, true, false, List, [], ◌∷◌, ◌++◌, Option, Some, None, codes, decimal}
+use Rattle.std.specs.Prelude.{◌≡◌, ◌⊎◌, ℕ, if◌then◌else◌, ◌+◌, ◌-◌, ◌^◌, min, Bool, true, false, List, [], ◌∷◌, ◌++◌, Option, Some, None, codes, decimal}
+use Rattle.std.specs.Global.{Vec}
+use Rattle.std.specs.List.{list_any}
+use Rattle.std.specs.Str.{bytes_eq}
 use Rattle.gtid_text.specs.Canonical.{gtid_text}
 use Rattle.txn_journal.specs.BundleStates.{BundleValue}
 use Rattle.txn_journal.specs.WrittenSets.{set_text}
@@ -23,6 +26,8 @@ use Rattle.binlog_entries.specs.declared.import.ImportFault.TheVariants as impor
 use Rattle.binlog_entries.specs.declared.limits.Limit.{Limit}
 use Rattle.binlog_entries.specs.declared.limits.Limit.TheVariants as limits
 use Rattle.binlog_bundle.specs.Bundles.{ImportsBundle}
+use Rattle.binlog_bundle.specs.Logs.{terms_of, texts}
+use Rattle.binlog_bundle.specs.Files.{files as log_files}
 use Rattle.binlog_bundle.specs.Refused.{IsNoBundle}
 use Rattle.binlog_bundle.specs.declared.fault.BundleFault.{BundleFault}
 use Rattle.binlog_bundle.specs.declared.fault.BundleFault.TheVariants as bundles
@@ -32,10 +37,21 @@ use Rattle.commands.specs.Bundles.{text_answer}
 use Rattle.txn_journal.specs.declared.lines.Version.TheVariants.{Three}
 use Rattle.commands.specs.LogPlaces.{Place, place_at, place_text}
 use Rattle.commands.specs.declared.edge.Outcome.TheVariants as outcomes
+use Rattle.binlog_events.specs.Listing.{fault_word}
+use Rattle.binlog_files.specs.Words.{word_of as refusal_word}
+use Rattle.binlog_files.specs.declared.whole.FiledFault.{FiledFault}
+use Rattle.binlog_files.specs.declared.files.FilesFault.{FilesFault}
+use Rattle.binlog_files.specs.declared.files.FilesFault.TheVariants as filed
+use Rattle.binlog_bundle.specs.declared.fault.Logless.{Logless}
+use Rattle.binlog_bundle.specs.declared.fault.Logless.TheVariants as logless
+use Rattle.binlog_bundle.specs.declared.files.ChannelFiles.{ChannelFiles}
+use Rattle.txn_journal.specs.declared.bundle.BundleChannel.{BundleChannel}
+use Rattle.commands.specs.declared.import_fault.FileCause.{FileCause}
+use Rattle.commands.specs.declared.import_fault.FileCause.TheVariants as files
 use Rattle.commands.specs.declared.import_fault.ImportCause.{ImportCause}
 use Rattle.commands.specs.declared.import_fault.ImportCause.TheVariants as cause
 use Rattle.commands.specs.declared.import_fault.Refused.{Refused as Refusal}
-use Rattle.commands.specs.declared.import_fault.Refused.TheVariants.{Known, At, Executed, Unsupported}
+use Rattle.commands.specs.declared.import_fault.Refused.TheVariants.{Known, At, Executed, Unsupported, Binlog, Files}
 
 -- ---- what is refused, and where
 
@@ -69,6 +85,15 @@ journal_refused (journals.Set fault) = Known (set_fault fault)
 journal_refused (journals.Line channel c) = cause_refused channel c
 journal_refused (journals.Truncated channel) = Known (journal_fault (journals.Truncated channel))
 
+abbrev pub binlog_refused : Vec ℕ → ℕ → FilesFault → Refusal
+binlog_refused channel file (filed.Set fault) = Known (set_fault fault)
+binlog_refused channel file (filed.Damaged fault) = Binlog channel file fault.offset (files.Damaged fault.kind)
+binlog_refused channel file (filed.Refused offset refusal) = Binlog channel file offset (files.Refused refusal)
+
+abbrev pub logless_refused : ℕ → Logless → Refusal
+logless_refused line logless.Missing = At line cause.NoFiles
+logless_refused line logless.Surplus = At line cause.Text
+
 abbrev pub bundle_refused : BundleFault → Refusal
 bundle_refused (bundles.Own fault) = Known (journal_fault fault)
 bundle_refused (bundles.Log channel fault) = log_refused channel fault
@@ -77,6 +102,8 @@ bundle_refused (bundles.Journal fault) = journal_refused fault
 bundle_refused (bundles.Unsupported what) = Unsupported what
 bundle_refused (bundles.Unknown channel) = At channel cause.Unknown
 bundle_refused (bundles.Executed channel missing) = Executed channel missing
+bundle_refused (bundles.Binlog channel fault) = binlog_refused channel fault.file fault.fault
+bundle_refused (bundles.Logless line why) = logless_refused line why
 
 -- ---- the line of a refusal
 
@@ -109,6 +136,21 @@ cause_text (cause.TooLarge gtid limit) place = codes "limit " ++ (gtid_text gtid
 cause_text cause.Limit place = codes "limit"
 cause_text cause.Schema place = codes "schema"
 cause_text cause.Unknown place = codes "executed"
+cause_text cause.NoFiles place = codes "files"
+cause_text cause.Text place = codes "text"
+
+-- the word of what is wrong with a binary log file
+abbrev pub file_word : FileCause → List ℕ
+file_word (files.Damaged kind) = fault_word kind
+file_word (files.Refused refusal) = refusal_word refusal
+
+-- an offset of it, and what is wrong there
+abbrev pub offset_text : ℕ → FileCause → List ℕ
+offset_text offset cause = 32 ∷ (decimal offset ++ 32 ∷ file_word cause)
+
+-- the file of a channel, by its number, and what is wrong with it
+abbrev pub binlog_line : List ℕ → ℕ → ℕ → FileCause → List ℕ
+binlog_line channel file offset cause = codes "refused binlog " ++ (channel ++ 32 ∷ (decimal file ++ offset_text offset cause))
 
 -- it has a line, for memory was not refused
 abbrev pub HasLine : Refusal → Type 0
@@ -122,6 +164,8 @@ refused_line text (Known Memory) = []
 refused_line text (At line c) = codes "refused import line " ++ (decimal line ++ 32 ∷ cause_text c (place_at line text))
 refused_line text (Executed channel missing) = codes "refused import executed " ++ (channel ++ 32 ∷ set_text missing)
 refused_line text (Unsupported what) = codes "refused import unsupported " ++ what.items
+refused_line text (Binlog channel file offset cause) = binlog_line channel.items file offset cause
+refused_line text (Files channel) = codes "refused import files " ++ channel.items
 
 -- ---- what explains a refusal
 
@@ -153,20 +197,55 @@ refusal_notes is_explained text r = with_line_feed (refused_line text r) ++ expl
 abbrev pub silent_refusal : Printed
 silent_refusal = record { text = []; outcome = outcomes.Refused }
 
--- The text is imported: the answer is the bundle's text by version 3, and the notes are what a verdict on that won't see and it doesn't say.
-pub record IsImport (grants : Grants) (text : List ℕ) (printed : Printed) (notes : List ℕ) : Type 0 where
+-- The bundle is imported: the answer is its text by version 3, and the notes are what a verdict on that won't see and it doesn't say.
+pub record IsImport (imports : BundleValue → List ℕ → Type 0) (printed : Printed) (notes : List ℕ) : Type 0 where
   pub bundle : BundleValue
-  pub imports : ImportsBundle grants text bundle notes
+  pub imported : imports bundle notes
   pub answers : printed ≡ text_answer Three bundle
 
 -- The text is refused: nothing is printed, and the notes are the line of the refusal, with what explains it.
-pub record IsImportRefused (grants : Grants) (is_explained : Bool) (text : List ℕ) (printed : Printed) (notes : List ℕ) : Type 0 where
-  pub fault : BundleFault
-  pub none : IsNoBundle grants fault text
-  pub line : HasLine (bundle_refused fault)
+pub record IsImportRefused (none : Refusal → Type 0) (is_explained : Bool) (text : List ℕ) (printed : Printed) (notes : List ℕ) : Type 0 where
+  pub refusal : Refusal
+  pub is : none refusal
+  pub line : HasLine refusal
   pub silent : printed ≡ silent_refusal
-  pub noted : notes ≡ refusal_notes is_explained text (bundle_refused fault)
+  pub noted : notes ≡ refusal_notes is_explained text refusal
+
+-- it is the refusal of a fault for which there is no bundle
+abbrev pub IsOfFault : (BundleFault → Type 0) → Refusal → Type 0
+IsOfFault none refusal = (fault : BundleFault) × none fault × (refusal ≡ bundle_refused fault)
 
 -- these are the answer of `import` to this text and the notes beside it
 abbrev pub Imports : Grants → Bool → List ℕ → Printed → List ℕ → Type 0
-Imports grants is_explained text printed notes = IsImport grants text printed notes ⊎ IsImportRefused grants is_explained text printed notes
+Imports grants is_explained text printed notes =
+    IsImport (ImportsBundle (terms_of grants texts) text) printed notes
+    ⊎ IsImportRefused (IsOfFault (λ fault. IsNoBundle (terms_of grants texts) fault text)) is_explained text printed notes
+
+-- ---- with binary log files
+
+abbrev pub has_name : List ℕ → List BundleChannel → Bool
+has_name name channels = list_any (λ c. bytes_eq c.name name) channels
+
+-- the first name of files that is none of these channels'
+abbrev pub unnamed : List ChannelFiles → List BundleChannel → Option (List ℕ)
+unnamed [] channels = None
+unnamed (f ∷ fs) channels = if has_name f.name.items channels then unnamed fs channels else Some f.name.items
+
+-- a bundle is imported whose channels have all of these files
+abbrev pub ImportsAll : Grants → List ChannelFiles → List ℕ → BundleValue → List ℕ → Type 0
+ImportsAll grants logs text b notes = ImportsBundle (terms_of grants (log_files logs)) text b notes × (unnamed logs b.channels ≡ None)
+
+-- a bundle is imported, but these files are of none of its channels
+abbrev pub HasUnnamed : Grants → List ChannelFiles → List ℕ → Refusal → Type 0
+HasUnnamed grants logs text (Files name) =
+    (b : BundleValue) × (notes : List ℕ) × ImportsBundle (terms_of grants (log_files logs)) text b notes × (unnamed logs b.channels ≡ Some name.items)
+HasUnnamed grants logs text _ = ⊥
+
+-- the text is refused with these files, or one of these
+abbrev pub IsFilesRefusal : Grants → List ChannelFiles → List ℕ → Refusal → Type 0
+IsFilesRefusal grants logs text refusal = IsOfFault (λ fault. IsNoBundle (terms_of grants (log_files logs)) fault text) refusal ⊎ HasUnnamed grants logs text refusal
+
+-- these are the answer of `import` to this text and these files, and the notes beside it
+abbrev pub ImportsWithFiles : List ChannelFiles → Grants → Bool → List ℕ → Printed → List ℕ → Type 0
+ImportsWithFiles logs grants is_explained text printed notes =
+    IsImport (ImportsAll grants logs text) printed notes ⊎ IsImportRefused (IsFilesRefusal grants logs text) is_explained text printed notes

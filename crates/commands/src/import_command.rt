@@ -4,16 +4,16 @@ ghost use Rattle.commands.specs.Printed.{Holds};
 ghost use Rattle.commands.specs.Bundles.{text_answer};
 ghost use Rattle.txn_journal.specs.declared.lines.Version.TheVariants.{Three};
 ghost use Rattle.commands.specs.Reports.{HoldsReport, HasReported, HasNotReported};
-ghost use Rattle.commands.specs.Imports.{Imports, HasLine, bundle_refused, refusal_notes, silent_refusal};
+ghost use Rattle.commands.specs.Imports.{Imports, HasLine, refusal_notes, silent_refusal};
 
 use crate::answer::Answer;
 use crate::edge::{Outcome, RunFault, Sink, Source};
-use crate::import_fault::bundle_refused;
+use crate::import_fault::{Refused, bundle_refused};
 use crate::import_refusal::refusal_notes;
 use crate::pieces::Text;
 use crate::report::{Report, Reporter, run_report};
 use crate::streams::Streams;
-use binlog_bundle::{BundleFault, Grants, ImportedBundle, import_bundle};
+use binlog_bundle::{Grants, ImportedBundle, import_bundle};
 use std::alloc::Global;
 use std::mem;
 use txn_journal::{Bundle, Version, bundle_text};
@@ -33,7 +33,7 @@ fn import_found(alloc: Global, bundle: &Bundle) -> Result<Answer, RunFault>
 }
 
 /// The text of a bundle, and what a verdict on it won't see and it doesn't say. The bundle is leaked: the end of the process frees it.
-fn report_imported(alloc: Global, imported: ImportedBundle) -> Result<Report, RunFault>
+pub(crate) fn report_imported(alloc: Global, imported: ImportedBundle) -> Result<Report, RunFault>
     ensures answer { IfOk result (λ held. Holds held.answer (text_answer Three imported.bundle)) }
     ensures notes { IfOk result (λ held. held.notes.items ≡ imported.notes.items) }
     ensures memory { IfErr result (λ f. f ≡ RunFault.Memory) }
@@ -48,18 +48,18 @@ fn report_imported(alloc: Global, imported: ImportedBundle) -> Result<Report, Ru
 }
 
 /// The line of a refusal of a text, and, if that is asked for, what explains it.
-fn report_refused(
+pub(crate) fn report_refused(
     alloc: Global,
     is_explained: bool,
     text: &[u8],
-    fault: BundleFault,
+    refused: Refused,
 ) -> Result<Report, RunFault>
     ensures answer { IfOk result (λ held. Holds held.answer silent_refusal) }
-    ensures notes { IfOk result (λ held. held.notes.items ≡ refusal_notes is_explained text.now (bundle_refused fault)) }
-    ensures line { OnOk result (HasLine (bundle_refused fault)) }
+    ensures notes { IfOk result (λ held. held.notes.items ≡ refusal_notes is_explained text.now refused) }
+    ensures line { OnOk result (HasLine refused) }
     ensures memory { IfErr result (λ f. f ≡ RunFault.Memory) }
 {
-    let Ok(notes) = refusal_notes(alloc, is_explained, text, &bundle_refused(fault)) else {
+    let Ok(notes) = refusal_notes(alloc, is_explained, text, &refused) else {
         return Err(RunFault::Memory);
     };
     Ok(Report {
@@ -83,7 +83,7 @@ fn report_import(
 {
     match import_bundle(alloc, grants, text) {
         Ok(imported) => report_imported(alloc, imported),
-        Err(fault) => report_refused(alloc, is_explained, text, fault),
+        Err(fault) => report_refused(alloc, is_explained, text, bundle_refused(fault)),
     }
 }
 

@@ -1,9 +1,11 @@
 //! Why `import` refuses a text.
 ghost use Rattle.std.specs.Prelude.{◌≡◌};
-ghost use Rattle.commands.specs.Imports.{text_refused, entry_refused, log_refused, cause_refused, journal_refused, bundle_refused, line_named};
+ghost use Rattle.commands.specs.Imports.{text_refused, entry_refused, log_refused, cause_refused, journal_refused, binlog_refused, logless_refused, bundle_refused, line_named};
 
-use binlog_bundle::BundleFault;
+use binlog_bundle::{BundleFault, Logless};
 use binlog_entries::{EntryRefusal, ImportFault, Limit, LogFault, ReadFault};
+use binlog_files::{FileRefusal, FilesFault};
+use binlog_frames::FaultKind;
 use gtid_report::{Fault, Refusal};
 use gtid_set::GtidSet;
 use gtid_text::Gtid;
@@ -27,6 +29,19 @@ pub(crate) enum ImportCause {
     Schema,
     /// It isn't known what the channel's server had executed.
     Unknown,
+    /// No file of the channel is named.
+    NoFiles,
+    /// There is text in the place of the channel's log, and files are read.
+    Text,
+}
+
+/// What is wrong with a binary log file.
+#[derive(Clone, Copy, Debug, PartialEq, Eq, Drop)]
+pub(crate) enum FileCause {
+    /// Its bytes are not those of one.
+    Damaged(FaultKind),
+    /// An event is refused.
+    Refused(FileRefusal),
 }
 
 /// Why a text is refused.
@@ -40,6 +55,10 @@ pub(crate) enum Refused {
     Executed(Name, GtidSet),
     /// The head names what a bundle can't hold.
     Unsupported(Vec<u8>),
+    /// The file of this channel and number, counted from 1, is refused, for the event at this offset.
+    Binlog(Vec<u8>, u64, u64, FileCause),
+    /// Files are named of a channel that the head hasn't.
+    Files(Vec<u8>),
 }
 
 fn text_refused(channel: u64, fault: ReadFault) -> Refused
@@ -104,6 +123,35 @@ fn journal_refused(fault: JournalFault) -> Refused
     }
 }
 
+fn binlog_refused(channel: Vec<u8>, file: u64, fault: FilesFault) -> Refused
+    ensures { result ≡ binlog_refused channel file fault }
+{
+    match fault {
+        FilesFault::Set(fault) => Refused::Known(Fault::from(fault)),
+        FilesFault::Damaged(fault) => Refused::Binlog(
+            channel,
+            file,
+            fault.offset,
+            FileCause::Damaged(fault.kind),
+        ),
+        FilesFault::Refused(offset, refusal) => Refused::Binlog(
+            channel,
+            file,
+            offset,
+            FileCause::Refused(refusal),
+        ),
+    }
+}
+
+fn logless_refused(line: u64, why: Logless) -> Refused
+    ensures { result ≡ logless_refused line why }
+{
+    match why {
+        Logless::Missing => Refused::At(line, ImportCause::NoFiles),
+        Logless::Surplus => Refused::At(line, ImportCause::Text),
+    }
+}
+
 /// Why a text is refused with this fault.
 pub(crate) fn bundle_refused(fault: BundleFault) -> Refused
     ensures { result ≡ bundle_refused fault }
@@ -119,6 +167,8 @@ pub(crate) fn bundle_refused(fault: BundleFault) -> Refused
         BundleFault::Unsupported(what) => Refused::Unsupported(what),
         BundleFault::Unknown { line } => Refused::At(line, ImportCause::Unknown),
         BundleFault::Executed { channel, missing } => Refused::Executed(channel, missing),
+        BundleFault::Binlog { channel, fault } => binlog_refused(channel, fault.file, fault.fault),
+        BundleFault::Logless { line, why } => logless_refused(line, why),
     }
 }
 

@@ -1,15 +1,16 @@
 //! The lines with which `import` refuses a text.
-ghost use Rattle.std.specs.Prelude.{◌≡◌, ◌++◌, ◌∷◌, IfOk, OnOk, option_map, codes};
+ghost use Rattle.std.specs.Prelude.{◌≡◌, ◌++◌, ◌∷◌, IfOk, OnOk, option_map, codes, decimal};
 ghost use Rattle.txn_journal.specs.WrittenSets.{set_text};
 ghost use Rattle.gtid_text.specs.Canonical.{gtid_text};
 ghost use Rattle.commands.specs.LogPlaces.{place_of, place_at};
-ghost use Rattle.commands.specs.Imports.{column_text, mapped_text, refusal_text, limit_text, cause_text, HasLine, refused_line, line_explained, explanation, refusal_notes};
+ghost use Rattle.commands.specs.Imports.{column_text, mapped_text, refusal_text, limit_text, cause_text, HasLine, file_word, offset_text, binlog_line, refused_line, line_explained, explanation, refusal_notes};
 ghost use Rattle.binlog_entries.specs.declared.fault.EntryRefusal.TheVariants as refusals;
 ghost use Rattle.commands.specs.declared.import_fault.Refused.TheVariants.{At};
 
-use crate::import_fault::{ImportCause, Refused, line_named};
+use crate::import_fault::{FileCause, ImportCause, Refused, line_named};
 use crate::log_places::{LogPlace, place_at, put_place};
 use binlog_entries::{EntryRefusal, Limit};
+use binlog_events::fault_word;
 use fault_places::{put, put_number};
 use gtid_report::{Fault, push_set, render_fault};
 use gtid_set::GtidSet;
@@ -130,6 +131,8 @@ fn put_cause(
         ImportCause::Limit => put(out, "limit"),
         ImportCause::Schema => put(out, "schema"),
         ImportCause::Unknown => put(out, "executed"),
+        ImportCause::NoFiles => put(out, "files"),
+        ImportCause::Text => put(out, "text"),
     }
 }
 
@@ -172,6 +175,64 @@ fn put_unsupported(out: &mut Vec<u8>, what: &[u8]) -> Result<(), AllocError>
     put_bytes(out, what)
 }
 
+/// The word of what is wrong with a file.
+fn file_word(cause: FileCause) -> &'static str
+    ensures { result.now ≡ file_word cause }
+{
+    match cause {
+        FileCause::Damaged(kind) => fault_word(kind),
+        FileCause::Refused(refusal) => refusal.word(),
+    }
+}
+
+/// Appends an offset of a file, and what is wrong there.
+fn put_offset(out: &mut Vec<u8>, offset: u64, cause: FileCause) -> Result<(), AllocError>
+    ensures { OnOk result (out.new.items ≡ out.old.items ++ offset_text offset cause) }
+{
+    put(out, " ")?;
+    put_number(out, offset as usize)?;
+    put(out, " ")?;
+    put(out, file_word(cause))
+}
+
+/// Appends a file of a channel, by its number, and what is wrong at an offset of it.
+fn put_file(
+    out: &mut Vec<u8>,
+    channel: &[u8],
+    file: u64,
+    offset: u64,
+    cause: FileCause,
+) -> Result<(), AllocError>
+    ensures { OnOk result (out.new.items ≡ out.old.items ++ (channel.now ++ 32 ∷ (decimal file ++ offset_text offset cause))) }
+{
+    put_bytes(out, channel)?;
+    put(out, " ")?;
+    put_number(out, file as usize)?;
+    put_offset(out, offset, cause)
+}
+
+/// Appends that a file of a channel is refused.
+fn put_binlog(
+    out: &mut Vec<u8>,
+    channel: &[u8],
+    file: u64,
+    offset: u64,
+    cause: FileCause,
+) -> Result<(), AllocError>
+    ensures { OnOk result (out.new.items ≡ out.old.items ++ binlog_line channel.now file offset cause) }
+{
+    put(out, "refused binlog ")?;
+    put_file(out, channel, file, offset, cause)
+}
+
+/// Appends that files are named of a channel that the head hasn't.
+fn put_files(out: &mut Vec<u8>, channel: &[u8]) -> Result<(), AllocError>
+    ensures { OnOk result (out.new.items ≡ out.old.items ++ (codes "refused import files " ++ channel.now)) }
+{
+    put(out, "refused import files ")?;
+    put_bytes(out, channel)
+}
+
 /// Appends the line of a refusal of this text, without the line feed.
 fn put_refused(
     alloc: Global,
@@ -188,6 +249,10 @@ fn put_refused(
         Refused::At(line, cause) => put_line_refused(alloc, out, text, *line, cause),
         Refused::Executed(channel, missing) => put_lacking(alloc, out, channel.as_str(), missing),
         Refused::Unsupported(what) => put_unsupported(out, what),
+        Refused::Binlog(channel, file, offset, cause) => put_binlog(
+            out, channel, *file, *offset, *cause,
+        ),
+        Refused::Files(channel) => put_files(out, channel),
     }
 }
 

@@ -7,7 +7,7 @@ use crate::reading::MOST_READS;
 use std::alloc::Global;
 
 /// All bytes that a reader gives, in pieces of at most 65,536.
-pub(crate) fn read_all<S: Source>(alloc: Global, reader: &mut S) -> Result<Vec<u8>, RunFault>
+pub fn read_all<S: Source>(alloc: Global, reader: &mut S) -> Result<Vec<u8>, RunFault>
     ensures read { IfOk result (λ bytes. HasRead (S.left reader.old) (S.left reader.new) bytes.items) }
     ensures calm { OnOk result (S.failed reader.new ≡ S.failed reader.old) }
     ensures fault { IfErr result (ReadFault (input_of S.left S.failed reader.old) (input_of S.left S.failed reader.new)) }

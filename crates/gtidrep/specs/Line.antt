@@ -1,7 +1,7 @@
 -- What a command line means.
 use Rattle.std.specs.Prelude.{◌≤◌, ℕ, List, Option, None, option_map}
 use Rattle.gtidrep.specs.declared.line.Command.{Command}
-use Rattle.gtidrep.specs.declared.line.Command.TheVariants.{Set, Position, Audit, Upgrade, Import, States, Events, Version, Apply, Tell}
+use Rattle.gtidrep.specs.declared.line.Command.TheVariants.{Set, Position, Audit, Upgrade, Import, ImportFiles, States, Events, Version, Apply, Tell}
 
 -- an `apply` is for 1 to 64 workers
 abbrev pub IsForOneToMost : Command → Type 0
@@ -12,6 +12,7 @@ IsForOneToMost (Audit order listing) = Unit {0}
 IsForOneToMost (Upgrade target) = Unit {0}
 IsForOneToMost States = Unit {0}
 IsForOneToMost (Import grants is_explained) = Unit {0}
+IsForOneToMost (ImportFiles grants is_explained files) = Unit {0}
 IsForOneToMost (Events file detail) = Unit {0}
 IsForOneToMost Version = Unit {0}
 IsForOneToMost (Position own ask) = Unit {0}

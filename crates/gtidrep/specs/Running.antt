@@ -1,5 +1,6 @@
 -- What the program does for each command: which answer of crate `commands` it writes.
 use Rattle.std.specs.Prelude.{◌≡◌, ℕ, List, Option, option_map}
+use Rattle.binlog_bundle.specs.declared.files.ChannelFiles.{ChannelFiles}
 use Rattle.binlog_events.specs.declared.row_lines.EventDetail.{EventDetail}
 use Rattle.commands.specs.Edge.{StreamsValue}
 use Rattle.commands.specs.Printed.{Printed, Answering, at_once, to_all, IsDone, HasFailed, HasStopped}
@@ -10,7 +11,7 @@ use Rattle.commands.specs.Listings.{Lists}
 use Rattle.commands.specs.Explaining.{Explains}
 use Rattle.commands.specs.States.{IsStatesAnswer}
 use Rattle.commands.specs.Events.{IsEventsAnswer, HasEndedEarly}
-use Rattle.commands.specs.Imports.{Imports}
+use Rattle.commands.specs.Imports.{Imports, ImportsWithFiles}
 use Rattle.commands.specs.Version.{printed_version}
 use Rattle.commands.specs.Applying.{Tells}
 use Rattle.commands.specs.Reports.{HasReported, HasNotReported}
@@ -18,7 +19,7 @@ use Rattle.commands.specs.declared.edge.Outcome.{Outcome}
 use Rattle.commands.specs.declared.edge.RunFault.{RunFault}
 use Rattle.gtidrep.specs.declared.line.Listing.TheVariants as listing
 use Rattle.gtidrep.specs.declared.line.Command.{Command}
-use Rattle.gtidrep.specs.declared.line.Command.TheVariants.{Set, Position, Audit, Upgrade, States, Import, Events, Version, Apply, Tell}
+use Rattle.gtidrep.specs.declared.line.Command.TheVariants.{Set, Position, Audit, Upgrade, States, Import, ImportFiles, Events, Version, Apply, Tell}
 
 -- a command answers on standard output alone, at once or in parts or while it reads, or reports there and on standard error
 pub data Doing : Type 1 where
@@ -27,20 +28,21 @@ pub data Doing : Type 1 where
   lists_events : EventDetail → Doing
   reports : (List ℕ → Printed → List ℕ → Type 0) → Doing
 
--- what each command does
-abbrev pub doing_of : Command → Doing
-doing_of (Set function first second) = answers (set_answering function.now first.now (option_map (λ w. w.now) second))
-doing_of (Position own ask) = answers (to_asking (asking_in own.now ask.now))
-doing_of (Audit order listing.Verdict) = answers (to_all (Audits order))
-doing_of (Audit order listing.All) = answers (to_all Lists)
-doing_of (Audit order listing.Explained) = reports (Explains order)
-doing_of (Upgrade target) = answers (to_all (Upgrades target))
-doing_of States = answers_in_parts (to_all IsStatesAnswer)
-doing_of (Import grants is_explained) = reports (Imports grants is_explained)
-doing_of (Events file detail) = lists_events detail
-doing_of Version = answers (at_once printed_version)
-doing_of (Apply way order workers) = answers (to_all (Applies order))
-doing_of (Tell order workers) = reports (Tells order)
+-- what each command does, with these binary log files of channels
+abbrev pub doing_of : List ChannelFiles → Command → Doing
+doing_of logs (Set function first second) = answers (set_answering function.now first.now (option_map (λ w. w.now) second))
+doing_of logs (Position own ask) = answers (to_asking (asking_in own.now ask.now))
+doing_of logs (Audit order listing.Verdict) = answers (to_all (Audits order))
+doing_of logs (Audit order listing.All) = answers (to_all Lists)
+doing_of logs (Audit order listing.Explained) = reports (Explains order)
+doing_of logs (Upgrade target) = answers (to_all (Upgrades target))
+doing_of logs States = answers_in_parts (to_all IsStatesAnswer)
+doing_of logs (Import grants is_explained) = reports (Imports grants is_explained)
+doing_of logs (ImportFiles grants is_explained files) = reports (ImportsWithFiles logs grants is_explained)
+doing_of logs (Events file detail) = lists_events detail
+doing_of logs Version = answers (at_once printed_version)
+doing_of logs (Apply way order workers) = answers (to_all (Applies order))
+doing_of logs (Tell order workers) = reports (Tells order)
 
 module _ {S W E : Type 0} (written : E → Option (List ℕ)) (failed : E → ℕ) (old new : E) (before after : StreamsValue S W) where
   -- it is done, with standard error as it was, or with the notes on it

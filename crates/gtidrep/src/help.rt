@@ -66,13 +66,17 @@ Example:
 Status: 0 printed, 1 refused, 2 the command line, 3 memory, 4 reading or writing failed.";
 
 pub(crate) const IMPORT_EXAMPLE: &str =
-    "Reads a bundle of version 3 in which each journal is what mysqlbinlog prints of binary logs of MySQL, and prints it with
-its journals. Transactions of the opening set are left out by mysqlbinlog itself. The line of a channel ends with the
-gtid_executed of its server, so that a log that ends early is refused. What an option grants the bundle says in its lines
-`assume ..`. Standard error has the refusal, which names the line of the input, or else a line for each table whose keys
---bytes takes.
+    "Reads the head of a bundle of version 3 and binary logs of MySQL, and prints the bundle with their journals. With --binlogs the
+logs are the files that it names; else the input has in the place of each journal what mysqlbinlog prints of them, and
+transactions of the opening set are left out by mysqlbinlog itself. The line of a channel ends with the gtid_executed of its
+server, so that a log that ends early is refused. What an option grants, and that a log has no checksums, the bundle says in
+its lines `assume ..`. Standard error has the refusal, which names the line of the input, or the file of a channel and the
+offset of the event; or else a line for each table whose keys --bytes takes.
 
-Example:
+Examples:
+  (cat head && echo channel east executed EXECUTED && echo done) |
+    gtidrep import --binlogs east=east-bin.000001 east=east-bin.000002 > shop.bundle
+
   set -o pipefail
   (cat head && echo channel east executed EXECUTED &&
    mysqlbinlog --verify-binlog-checksum -v --base64-output=decode-rows --print-table-metadata \\
@@ -106,6 +110,11 @@ Example:
 Status: 0 applied, 5 where something is assumed, 1 refused, 2 the command line, 3 memory, 4 reading or writing failed.";
 
 pub(crate) const NO_HISTORY: &str = "error: --history goes with --by replica: a merge has no history
+
+For more information, try '--help'.
+";
+
+pub(crate) const NO_CHANNEL: &str = "error: --binlogs names each file as <channel>=<file>
 
 For more information, try '--help'.
 ";

@@ -2,9 +2,10 @@ ghost use Rattle.std.specs.Prelude.{◌≡◌, ℕ, ◌≤◌, IfOk, MatchOption
 ghost use Rattle.gtidrep.specs.Line.{IsForOneToMost, file_of};
 
 use crate::help::{
-    APPLY_EXAMPLE, AUDIT_EXAMPLE, EVENTS_EXAMPLE, IMPORT_EXAMPLE, NO_HISTORY, POSITION_EXAMPLE,
-    SET_EXAMPLE, STATES_EXAMPLE, UPGRADE_EXAMPLE,
+    APPLY_EXAMPLE, AUDIT_EXAMPLE, EVENTS_EXAMPLE, NO_HISTORY, POSITION_EXAMPLE, SET_EXAMPLE,
+    STATES_EXAMPLE, UPGRADE_EXAMPLE,
 };
+use crate::import_line::{LogWord, grants_of, import_command, log_words};
 use binlog_bundle::Grants;
 use binlog_events::EventDetail;
 use clap::builder::ValueParser;
@@ -54,6 +55,12 @@ pub enum Command<'a> {
     Import {
         grants: Grants,
         is_explained: bool,
+    },
+    /// A head from standard input is made a bundle with the journals of binary log files, or their refusal is explained.
+    ImportFiles {
+        grants: Grants,
+        is_explained: bool,
+        files: Vec<LogWord<'a>>,
     },
     /// The events of a binary log are listed, of this file or from standard input.
     Events {
@@ -195,51 +202,12 @@ fn states_command<'a>(alloc: Global) -> clap::Command<'a> {
         .after_help(STATES_EXAMPLE)
 }
 
-fn flag<'a>(alloc: Global, id: &'a str, help: &'a str) -> Arg<'a> {
+/// A flag of this name.
+pub(crate) fn flag<'a>(alloc: Global, id: &'a str, help: &'a str) -> Arg<'a> {
     Arg::new(alloc, id)
         .long(id)
         .action(ArgAction::SetTrue)
         .help(help)
-}
-
-fn bytes_flag<'a>(alloc: Global) -> Arg<'a> {
-    flag(
-        alloc,
-        "bytes",
-        "takes keys that the server compares otherwise than by their bytes; then two values that it calls equal may be two keys",
-    )
-}
-
-fn foreign_keys_flag<'a>(alloc: Global) -> Arg<'a> {
-    flag(
-        alloc,
-        "without-foreign-keys",
-        "takes tables with foreign keys; then a reference to a row that is missing can't be seen",
-    )
-}
-
-fn executed_flag<'a>(alloc: Global) -> Arg<'a> {
-    flag(
-        alloc,
-        "executed-unknown",
-        "takes channels whose line doesn't say what their server had executed; then a log that ends early can't be seen",
-    )
-}
-
-fn import_command<'a>(alloc: Global) -> Result<clap::Command<'a>, AllocError> {
-    clap::Command::new(alloc, "import")
-        .about(
-            "Writes a bundle whose journals are the texts of binary logs: import < examples/ring.logs",
-        )
-        .after_help(IMPORT_EXAMPLE)
-        .arg(bytes_flag(alloc))?
-        .arg(foreign_keys_flag(alloc))?
-        .arg(executed_flag(alloc))?
-        .arg(flag(
-            alloc,
-            "explain",
-            "shows on standard error the line that is refused, with its transaction, its end_log_pos and its file",
-        ))
 }
 
 fn events_command<'a>(alloc: Global) -> Result<clap::Command<'a>, AllocError> {
@@ -390,14 +358,6 @@ fn listing_of(matches: &ArgMatches) -> Listing {
     }
 }
 
-fn grants_of(matches: &ArgMatches) -> Grants {
-    Grants {
-        bytes: matches.get_flag("bytes"),
-        without_foreign_keys: matches.get_flag("without-foreign-keys"),
-        executed_unknown: matches.get_flag("executed-unknown"),
-    }
-}
-
 fn command_of<'a>(name: &str, matches: &ArgMatches<'a>) -> Option<Command<'a>>
     ensures { MatchOption result (Unit {0}) IsForOneToMost }
 {
@@ -434,12 +394,6 @@ fn command_of<'a>(name: &str, matches: &ArgMatches<'a>) -> Option<Command<'a>>
             detail: detail_of(matches),
         });
     }
-    if name == "import" {
-        return Some(Command::Import {
-            grants: grants_of(matches),
-            is_explained: matches.get_flag("explain"),
-        });
-    }
     applying_of(matches)
 }
 
@@ -453,11 +407,55 @@ pub fn file_of<'a>(command: &Command<'a>) -> Option<&'a str>
     }
 }
 
-fn named_command<'a>(matches: &ArgMatches<'a>) -> Option<Command<'a>>
-    ensures { MatchOption result (Unit {0}) IsForOneToMost }
+/// The binary log files that the words of a command name.
+pub(crate) fn logs_of<'a, 'c>(command: &'c Command<'a>) -> &'c [LogWord<'a>] {
+    match command {
+        Command::ImportFiles { files, .. } => files.as_slice(),
+        _ => &[],
+    }
+}
+
+/// How bundles of logs are imported: from text, or from the files that are named.
+fn import_of<'a>(alloc: Global, matches: &ArgMatches<'a>) -> Result<Command<'a>, CommandFault>
+    ensures { IfOk result IsForOneToMost }
 {
-    let (name, inner) = matches.subcommand()?;
-    command_of(name, inner)
+    let grants = grants_of(matches);
+    let is_explained = matches.get_flag("explain");
+    match matches.get_strs("binlogs") {
+        None => Ok(Command::Import {
+            grants,
+            is_explained,
+        }),
+        Some(words) => Ok(Command::ImportFiles {
+            grants,
+            is_explained,
+            files: log_words(alloc, words)?,
+        }),
+    }
+}
+
+/// The command that words are which `clap` takes. (Of these a merge that is asked for its history alone is none.)
+fn named_command<'a>(alloc: Global, matches: &ArgMatches<'a>) -> Result<Command<'a>, CommandFault>
+    ensures { IfOk result IsForOneToMost }
+{
+    let Some((name, inner)) = matches.subcommand() else {
+        return Err(told(alloc, NO_HISTORY));
+    };
+    if name == "import" {
+        return import_of(alloc, inner);
+    }
+    match command_of(name, inner) {
+        Some(command) => Ok(command),
+        None => Err(told(alloc, NO_HISTORY)),
+    }
+}
+
+/// The fault of words that is told by this text.
+pub(crate) fn told(alloc: Global, text: &str) -> CommandFault {
+    match String::from_str(alloc, text) {
+        Ok(text) => CommandFault::Line(text),
+        Err(_) => CommandFault::Memory,
+    }
 }
 
 fn fault_of(alloc: Global, error: Error) -> CommandFault {
@@ -465,14 +463,6 @@ fn fault_of(alloc: Global, error: Error) -> CommandFault {
         return CommandFault::Memory;
     }
     match error.to_string(alloc) {
-        Ok(text) => CommandFault::Line(text),
-        Err(_) => CommandFault::Memory,
-    }
-}
-
-/// A merge is asked for its history: no other words that `clap` takes are no command.
-fn no_history(alloc: Global) -> CommandFault {
-    match String::from_str(alloc, NO_HISTORY) {
         Ok(text) => CommandFault::Line(text),
         Err(_) => CommandFault::Memory,
     }
@@ -486,10 +476,7 @@ pub fn parse_line<'a>(alloc: Global, words: &'a [String]) -> Result<Command<'a>,
         return Err(CommandFault::Memory);
     };
     match commands.no_binary_name(true).try_get_matches_from(words) {
-        Ok(matches) => match named_command(&matches) {
-            Some(command) => Ok(command),
-            None => Err(no_history(alloc)),
-        },
+        Ok(matches) => named_command(alloc, &matches),
         Err(error) if error.kind() == ErrorKind::DisplayVersion => Ok(Command::Version),
         Err(error) => Err(fault_of(alloc, error)),
     }

@@ -4,6 +4,7 @@
 //!     audit [--all | --explain | --ordered] < bundle
 //!     apply [--by merge|replica] [--history] [--ordered] [--workers N] < bundle
 //!     import [--bytes] [--without-foreign-keys] [--executed-unknown] [--explain] < bundle of logs
+//!     import --binlogs <channel>=<file>.. [the same] < head of a bundle
 //!     upgrade < bundle                       states < servers          events [<file>] < binary log
 //!     --version
 //!
@@ -23,15 +24,18 @@ ghost use Rattle.gtidrep.specs.Line.{IsForOneToMost};
 
 mod ending;
 mod help;
+mod import_line;
 mod line;
+mod log_files;
 mod running;
 
 use crate::ending::{Ending, exit_status, message, ran_over_file};
-use crate::line::{Command, CommandFault, file_of, parse_line};
+use crate::line::{Command, CommandFault, file_of, logs_of, parse_line};
+use crate::log_files::{open_file, read_logs};
 use crate::running::run_over;
+use binlog_bundle::ChannelFiles;
 use commands::{Outcome, RunFault, StdSink, StdSource, Streams};
 use std::env;
-use std::fs::File;
 use std::io::{self, ErrorKind, Read};
 use std::process::ExitCode;
 use std::sync::Wait;
@@ -56,23 +60,46 @@ fn run_over_reader<R: Read + Send + Drop, T: Threads + Wait + Sync>(
     rt: &HostRuntime,
     threads: &T,
     command: Command,
+    logs: &[ChannelFiles],
     reader: R,
 ) -> Result<Outcome, RunFault>
     requires { IsForOneToMost command }
 {
     let mut streams = Streams::new(StdSource::new(reader), StdSink::new(io::writer(rt)));
     let mut errors = StdSink::new(rt.stderr());
-    run_over(threads, rt.alloc(), command, &mut streams, &mut errors)
+    run_over(
+        threads,
+        rt.alloc(),
+        command,
+        logs,
+        &mut streams,
+        &mut errors,
+    )
 }
 
-/// The file of this name, or how the program ends without it: what opens a file may be refused memory.
-fn open_file(rt: &HostRuntime, name: &str) -> Result<File, Ending> {
-    match File::open(rt, name) {
-        Ok(file) => Ok(file),
-        Err(error) if error.kind() == ErrorKind::OutOfMemory => {
-            Err(Ending::Ran(Err(RunFault::Memory)))
-        }
-        Err(_) => Err(Ending::FileUnread),
+/// Runs a command over standard input, with the binary log files of channels.
+fn run_with_logs<T: Threads + Wait + Sync>(
+    rt: &HostRuntime,
+    threads: &T,
+    command: Command,
+    logs: &[ChannelFiles],
+) -> Ending
+    requires { IsForOneToMost command }
+{
+    Ending::Ran(run_over_reader(rt, threads, command, logs, rt.reader()))
+}
+
+/// Runs a command over standard input, and the binary log files that its words name.
+fn run_over_input<T: Threads + Wait + Sync>(
+    rt: &HostRuntime,
+    threads: &T,
+    command: Command,
+) -> Ending
+    requires { IsForOneToMost command }
+{
+    match read_logs(rt, logs_of(&command)) {
+        Ok(logs) => run_with_logs(rt, threads, command, &logs),
+        Err(ending) => ending,
     }
 }
 
@@ -81,10 +108,10 @@ fn run_command<T: Threads + Wait + Sync>(rt: &HostRuntime, threads: &T, command:
     requires { IsForOneToMost command }
 {
     let Some(name) = file_of(&command) else {
-        return Ending::Ran(run_over_reader(rt, threads, command, rt.reader()));
+        return run_over_input(rt, threads, command);
     };
     match open_file(rt, name) {
-        Ok(file) => ran_over_file(run_over_reader(rt, threads, command, file)),
+        Ok(file) => ran_over_file(run_over_reader(rt, threads, command, &[], file)),
         Err(ending) => ending,
     }
 }

@@ -1,12 +1,14 @@
 //! Which call of crate `commands` each command is.
-ghost use Rattle.std.specs.Prelude.{◌≡◌, IfOk, IfErr};
+ghost use Rattle.std.specs.Prelude.{◌≡◌, [], IfOk, IfErr};
 ghost use Rattle.gtidrep.specs.Line.{IsForOneToMost};
 ghost use Rattle.gtidrep.specs.Running.{doing_of, HasRun, HasNotRun};
 
 use crate::line::{Command, Listing};
+use binlog_bundle::ChannelFiles;
 use commands::{
     Outcome, RunFault, Sink, Source, Streams, apply_and_tell, apply_bundle, run_audit, run_events,
-    run_explain, run_import, run_list, run_position, run_set, run_states, run_upgrade, run_version,
+    run_explain, run_import, run_import_files, run_list, run_position, run_set, run_states,
+    run_upgrade, run_version,
 };
 use serving::Order;
 use std::alloc::Global;
@@ -21,8 +23,8 @@ fn run_listing<S: Source, W: Sink, E: Sink>(
     streams: &mut Streams<S, W>,
     errors: &mut E,
 ) -> Result<Outcome, RunFault>
-    ensures done { IfOk result (HasRun E.written E.failed errors.old errors.new streams.old streams.new (doing_of (Command.Audit order listing))) }
-    ensures failed { IfErr result (HasNotRun E.written E.failed errors.old errors.new streams.old streams.new (doing_of (Command.Audit order listing))) }
+    ensures done { IfOk result (HasRun E.written E.failed errors.old errors.new streams.old streams.new (doing_of [] (Command.Audit order listing))) }
+    ensures failed { IfErr result (HasNotRun E.written E.failed errors.old errors.new streams.old streams.new (doing_of [] (Command.Audit order listing))) }
 {
     match listing {
         Listing::Verdict => run_audit(alloc, order, streams),
@@ -31,19 +33,20 @@ fn run_listing<S: Source, W: Sink, E: Sink>(
     }
 }
 
-/// Runs a command over these streams. What a command notes beside its answer goes to `errors`.
+/// Runs a command over these streams, and these files of channels. What a command notes beside its answer goes to `errors`.
 pub fn run_over<T: Threads + Wait + Sync, S: Source + Send, W: Sink, E: Sink>(
     threads: &T,
     alloc: Global,
     command: Command,
+    logs: &[ChannelFiles],
     streams: &mut Streams<S, W>,
     errors: &mut E,
 ) -> Result<Outcome, RunFault>
     requires { IsForOneToMost command }
     ensures done { IfOk result
-        (HasRun E.written E.failed errors.old errors.new streams.old streams.new (doing_of command.entry)) }
+        (HasRun E.written E.failed errors.old errors.new streams.old streams.new (doing_of logs.now command.entry)) }
     ensures failed { IfErr result
-        (HasNotRun E.written E.failed errors.old errors.new streams.old streams.new (doing_of command.entry)) }
+        (HasNotRun E.written E.failed errors.old errors.new streams.old streams.new (doing_of logs.now command.entry)) }
 {
     match command {
         Command::Set {
@@ -59,6 +62,11 @@ pub fn run_over<T: Threads + Wait + Sync, S: Source + Send, W: Sink, E: Sink>(
             grants,
             is_explained,
         } => run_import(alloc, grants, is_explained, streams, errors),
+        Command::ImportFiles {
+            grants,
+            is_explained,
+            files: _files,
+        } => run_import_files(alloc, grants, is_explained, logs, streams, errors),
         Command::Events { file: _, detail } => run_events(alloc, detail, streams),
         Command::Version => run_version(alloc, streams),
         Command::Apply {

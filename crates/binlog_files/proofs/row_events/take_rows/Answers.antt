@@ -1,5 +1,5 @@
-use Rattle.std.proofs.Common.{◌+◌, List, map, drop, sym, ◌∙◌}
-use Rattle.log_transactions.specs.Events.{Event, Row}
+use Rattle.std.proofs.Common.{◌+◌, map, drop, sym, ◌∙◌}
+use Rattle.log_transactions.specs.Events.{Row}
 use Rattle.log_transactions.specs.States.{state}
 use Rattle.binlog_rows.specs.Reading.{row_view}
 use Rattle.binlog_files.specs.Rows.{change_of, row_events}

@@ -1,0 +1,68 @@
+# Sourced by gtidrep-collect, not run: what speaks against taking the servers' logs, and the sentences that tell it.
+#   reason SERVER WORD TABLE WHAT    notes a reason: its word, the table that it is of (or -), and what it is
+#   tell_reasons                     tells all that were noted, if any were, and ends the program
+# It wants `work` (a folder; its file `reasons` is emptied where reasons are to be noted anew), `muted` (the words that are no reason), `excluded` (the
+# tables that are left out), `called` (a server as sentences call it) and `tell`.
+# shellcheck shell=bash disable=SC2154
+
+reason() { printf '%s\t%s\t%s\t%s\n' "$(called "$1")" "$2" "$3" "$4" >>"$work/reasons"; }
+
+# Reasons of one kind and the same servers are one sentence, but for those that speak of one thing each: lines `<reason> TAB <servers> TAB <count> TAB <what>`.
+grouped() {
+  awk -F'\t' -v muted=" ${!muted[*]} " -v excluded=" ${excluded[*]} " -v each=' setting version filter no-table difference same-name one-server purged tags damaged ' '
+    index(muted, " " $2 " ") || index(excluded, " " $3 " ") {next}
+    {key = $2 FS $4}
+    !(key in servers) {servers[key] = $1; keys[++n] = key; next}
+    index(", " servers[key] ", ", ", " $1 ", ") == 0 {servers[key] = servers[key] ", " $1}
+    END {
+      for (i = 1; i <= n; i++) {
+        key = keys[i]; split(key, part, FS); group = part[1] FS servers[key]; what = group (index(each, " " part[1] " ") ? FS part[2] : "")
+        if (!(what in count)) {groups[++m] = what; head[what] = group}
+        all[what] = all[what] (count[what]++ ? ", " : "") part[2]
+      }
+      for (i = 1; i <= m; i++) print head[groups[i]] FS count[groups[i]] FS all[groups[i]]
+    }' "$work/reasons"
+}
+
+leave_out='or leave it out by --exclude-table'
+
+# A group of reasons as a sentence that says what to do: its word, the servers, how many there are, and what they are.
+sentence() {
+  local them=$2 n=$3 what=$4
+  case $1 in
+    setting) echo "$them: $what. Set it, and begin at an opening after that" ;;
+    version) echo "$them: $what. MySQL from 8.0 on is taken" ;;
+    filter) echo "$them: by the filter $what transactions or rows may be missing. Take it away, and begin at an opening after that" ;;
+    tags) echo "$them: $what. No bundle takes them yet" ;;
+    no-table) echo "$them: $what. Give the account SELECT ON *.* there" ;;
+    one-server) echo "$what are one server, or two with one server_uuid. Name each server once" ;;
+    purged) echo "$them: the transactions $what are purged, so the rows from which its log goes on aren't known. Name by --opening a server that has executed them and stands there (a backup that was restored): its set and its rows are then the beginning" ;;
+    purged-beside-opening) echo "$them: the transactions $what are purged, and the server of --opening hasn't executed them. Take one that stands later" ;;
+    rows-of) echo "$them: the log has rows of tables that were left out, or that aren't there any more ($n): $what. Take them in, or begin at an opening after these rows" ;;
+    older-rows) echo "$them: tables have rows, of which the log has none ($n): $what. So the log doesn't go back to their beginning: name by --opening a server that stands where it begins, $leave_out" ;;
+    damaged) echo "$them: the bytes of its log aren't those that a server writes, in the file, at the offset and for the reason $what. Collect again, and if it stays, begin at an opening after it" ;;
+    packed) echo "$them: the log has transactions whose events are packed into one (binlog_transaction_compression), in these files from these offsets on: $what. Begin at an opening after them, or go the way by mysqlbinlog's text (docs/RECIPES.md, 'A bundle from the text of logs')" ;;
+    difference) echo "$them differ in the table $what. Make it alike on both, $leave_out" ;;
+    same-name) echo "$them: the tables $what have one name, and the head names tables without their database. Leave all but one of them out by --exclude-table" ;;
+    engine) echo "$them: tables that aren't of InnoDB ($n): $what. Give each ENGINE=InnoDB, $leave_out" ;;
+    name) echo "$them: tables whose names no bundle of this version takes ($n): $what. Rename each (small letters, digits and _), $leave_out" ;;
+    number-key) echo "$them: columns of keys for which 0 and -0 are one value, and two here ($n): $what. Give each another type, or leave its table out by --exclude-table, or give --bytes: then keys of 0 and -0 may be missed" ;;
+    collation) echo "$them: columns of keys that are compared otherwise than by their bytes ($n): $what. Give each the collation utf8mb4_0900_bin, or leave its table out by --exclude-table, or give --bytes: then two values that a server calls equal may be missed" ;;
+    columns) echo "$them: tables with too many columns ($n): $what. Leave each out by --exclude-table" ;;
+    keys) echo "$them: tables with too many unique keys ($n): $what. Drop some, $leave_out" ;;
+    prefix-key) echo "$them: unique keys that hold a prefix of a column ($n): $what. Make each a key of the whole column, or leave its table out by --exclude-table" ;;
+    expression-key) echo "$them: unique keys that hold an expression ($n): $what. Make each a key of a generated column, or leave its table out by --exclude-table" ;;
+    no-primary-key) echo "$them: tables without a primary key ($n): $what. Give each one, $leave_out" ;;
+    foreign-key) echo "$them: foreign keys, which aren't looked at ($n): $what. Give --without-foreign-keys: then the verdict doesn't see what servers do by them. Or leave their tables out by --exclude-table" ;;
+    cascade) echo "$them: foreign keys whose changes a server before 9.7 doesn't log ($n): $what. Such logs lack changes: take servers of 9.7, or foreign keys without cascades" ;;
+    *) echo "$them: $1 ($n): $what" ;;
+  esac
+}
+
+tell_reasons() {
+  grouped >"$work/groups"
+  [ -s "$work/groups" ] || return 0
+  tell "not taken, for these reasons (a table that is left out may have no rows in any log):"
+  while IFS=$'\t' read -r word them n what; do echo "  - $(sentence "$word" "$them" "$n" "$what")." >&2; done <"$work/groups"
+  exit 10
+}

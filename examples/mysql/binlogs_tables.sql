@@ -1,0 +1,23 @@
+-- Tables of binlogs beside those of values.py, with rows. Their keys are compared by their bytes.
+USE v;
+SET SESSION group_concat_max_len = 100000;
+CREATE TABLE parts (id INT PRIMARY KEY, w INT, half INT AS (w DIV 2) VIRTUAL, twice INT AS (w * 2) STORED) PARTITION BY HASH (id) PARTITIONS 3;
+CREATE TABLE plain (id INT PRIMARY KEY, w INT);
+CREATE TABLE log (n INT AUTO_INCREMENT PRIMARY KEY, w INT);
+CREATE TRIGGER after_plain AFTER UPDATE ON plain FOR EACH ROW INSERT INTO log (w) VALUES (NEW.w);
+CREATE TABLE parent (id INT PRIMARY KEY, code VARCHAR(20) CHARACTER SET utf8mb4 COLLATE utf8mb4_0900_bin UNIQUE);
+CREATE TABLE child (id INT PRIMARY KEY, p INT, CONSTRAINT up FOREIGN KEY (p) REFERENCES parent (id) ON DELETE CASCADE ON UPDATE CASCADE);
+CREATE TABLE long_rows (id INT PRIMARY KEY, b VARBINARY(5000), t LONGTEXT);
+CREATE TABLE unseen (id INT PRIMARY KEY, a INT INVISIBLE, b INT);
+SET sql_generate_invisible_primary_key = ON;
+CREATE TABLE keyless (w INT);
+SET sql_generate_invisible_primary_key = OFF;
+CREATE TABLE letters (id INT PRIMARY KEY, a CHAR(9) CHARACTER SET latin1, b VARCHAR(9) CHARACTER SET utf16, c TEXT CHARACTER SET gbk, d CHAR(255) CHARACTER SET utf8mb4,
+  e ENUM('x', 'é') CHARACTER SET latin1, f BINARY(255), g CHAR(3) CHARACTER SET utf16le);
+SET @columns = (WITH RECURSIVE n (i) AS (SELECT 1 UNION ALL SELECT i + 1 FROM n WHERE i < 299) SELECT GROUP_CONCAT(', c', i, ' TINYINT UNSIGNED DEFAULT 7' SEPARATOR '') FROM n);
+SET @wide = CONCAT('CREATE TABLE wide (id INT PRIMARY KEY', @columns, ')');
+PREPARE wide FROM @wide;
+EXECUTE wide;
+INSERT INTO plain VALUES (1, 10), (2, 20);
+INSERT INTO parent VALUES (1, 'a'), (2, 'b');
+INSERT INTO child VALUES (10, 1), (20, 2);
