@@ -1,8 +1,10 @@
 # Sourced by gtidrep-collect, not run: what speaks against taking the servers' logs, and the sentences that tell it.
 #   reason SERVER WORD TABLE WHAT    notes a reason: its word, the table that it is of (or -), and what it is
 #   tell_reasons                     tells all that were noted, if any were, and ends the program
+#   about_opening                    what the beginning is, in sentences
 # It wants `work` (a folder; its file `reasons` is emptied where reasons are to be noted anew), `muted` (the words that are no reason), `excluded` (the
-# tables that are left out), `called` (a server as sentences call it) and `tell`.
+# tables that are left out), `docs` (the folder of the documents), `called` (a server as sentences call it) and `tell`; for the
+# beginning also `opening`, `opening_file` and the file `older`, whose lines are `<server> <table>`.
 # shellcheck shell=bash disable=SC2154
 
 reason() { printf '%s\t%s\t%s\t%s\n' "$(called "$1")" "$2" "$3" "$4" >>"$work/reasons"; }
@@ -36,18 +38,16 @@ sentence() {
     tags) echo "$them: $what. No bundle takes them yet" ;;
     no-table) echo "$them: $what. Give the account SELECT ON *.* there" ;;
     one-server) echo "$what are one server, or two with one server_uuid. Name each server once" ;;
-    purged) echo "$them: the transactions $what are purged, so the rows from which its log goes on aren't known. Name by --opening a server that has executed them and stands there (a backup that was restored): its set and its rows are then the beginning" ;;
-    purged-beside-opening) echo "$them: the transactions $what are purged, and the server of --opening hasn't executed them. Take one that stands later" ;;
+    purged) echo "$them: the transactions $what are purged, and the server of --opening hasn't executed them. Take one that stands later" ;;
     rows-of) echo "$them: the log has rows of tables that were left out, or that aren't there any more ($n): $what. Take them in, or begin at an opening after these rows" ;;
-    older-rows) echo "$them: tables have rows, of which the log has none ($n): $what. So the log doesn't go back to their beginning: name by --opening a server that stands where it begins, $leave_out" ;;
     damaged) echo "$them: the bytes of its log aren't those that a server writes, in the file, at the offset and for the reason $what. Collect again, and if it stays, begin at an opening after it" ;;
-    packed) echo "$them: the log has transactions whose events are packed into one (binlog_transaction_compression), in these files from these offsets on: $what. Begin at an opening after them, or go the way by mysqlbinlog's text (docs/RECIPES.md, 'A bundle from the text of logs')" ;;
+    packed) echo "$them: the log has transactions whose events are packed into one (binlog_transaction_compression), in these files from these offsets on: $what. Begin at an opening after them, or go the way by mysqlbinlog's text ($docs/RECIPES.md, 'A bundle from the text of logs')" ;;
     difference) echo "$them differ in the table $what. Make it alike on both, $leave_out" ;;
     same-name) echo "$them: the tables $what have one name, and the head names tables without their database. Leave all but one of them out by --exclude-table" ;;
     engine) echo "$them: tables that aren't of InnoDB ($n): $what. Give each ENGINE=InnoDB, $leave_out" ;;
     name) echo "$them: tables whose names no bundle of this version takes ($n): $what. Rename each (small letters, digits and _), $leave_out" ;;
     number-key) echo "$them: columns of keys for which 0 and -0 are one value, and two here ($n): $what. Give each another type, or leave its table out by --exclude-table, or give --bytes: then keys of 0 and -0 may be missed" ;;
-    collation) echo "$them: columns of keys that are compared otherwise than by their bytes ($n): $what. Give each the collation utf8mb4_0900_bin, or leave its table out by --exclude-table, or give --bytes: then two values that a server calls equal may be missed" ;;
+    collation) echo "$them: columns of keys of collations that aren't taken ($n): $what. Give each one of the collations that gtidrep-collect --help lists, $leave_out, or give --bytes: then two values that a server calls equal may be missed" ;;
     columns) echo "$them: tables with too many columns ($n): $what. Leave each out by --exclude-table" ;;
     keys) echo "$them: tables with too many unique keys ($n): $what. Drop some, $leave_out" ;;
     prefix-key) echo "$them: unique keys that hold a prefix of a column ($n): $what. Make each a key of the whole column, or leave its table out by --exclude-table" ;;
@@ -65,4 +65,18 @@ tell_reasons() {
   tell "not taken, for these reasons (a table that is left out may have no rows in any log):"
   while IFS=$'\t' read -r word them n what; do echo "  - $(sentence "$word" "$them" "$n" "$what")." >&2; done <"$work/groups"
   exit 10
+}
+
+# Where the logs begin, and whether the rows there are known.
+about_opening() {
+  if [ -n "$opening_file" ]; then
+    echo "The beginning is the executed set ${opening/#-/(empty)} with $(sed 1,2d "$work/opening" | wc -l) rows, read from the server of $opening_file."
+  elif [ "$opening" != - ]; then
+    echo "The beginning is the executed set $opening, what any of the servers has purged. The rows there aren't known (--opening would name a server that stands there)."
+  elif [ -s "$work/older" ]; then
+    echo "The beginning is the empty set. The rows there aren't known, for tables have rows that are older than the logs ($(wc -l <"$work/older"), the first is $(head -1 "$work/older" | sed 's/\(.*\) \(.*\)/\2 of \1/'); --opening would name a server that stands there)."
+  else
+    echo "The beginning is the empty set with empty tables: no server has purged a transaction, and no table has rows of which its log has none."
+  fi
+  [ ${#excluded[@]} = 0 ] || echo "These tables were left out, and no log may have rows of them: ${excluded[*]}."
 }

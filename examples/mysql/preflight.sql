@@ -3,6 +3,9 @@
 --   mysql -N < preflight.sql
 -- The limits of a bundle of version 3, and the form of the names of tables that import takes of logs:
 SET @most_columns = 4096, @most_keys = 64, @form_of_names = '^[a-z_][a-z0-9_]{0,63}$';
+-- The collations whose weights are known, as tables.sql has them:
+SET @collations = CONCAT_WS(',', 'utf8mb4_0900_ai_ci', 'utf8mb4_0900_as_cs', 'utf8mb4_general_ci', 'utf8mb4_unicode_ci', 'utf8mb4_unicode_520_ci', 'utf8mb4_bin',
+  'utf8mb3_general_ci', 'utf8mb3_unicode_ci', 'utf8mb3_bin', 'latin1_swedish_ci', 'latin1_general_ci', 'latin1_general_cs', 'latin1_bin', 'ascii_general_ci', 'ascii_bin');
 WITH tables_here AS (
   SELECT TABLE_SCHEMA, TABLE_NAME, ENGINE, CONCAT_WS('.', TABLE_SCHEMA, TABLE_NAME) AS of_table FROM information_schema.TABLES
   WHERE TABLE_TYPE = 'BASE TABLE' AND TABLE_SCHEMA NOT IN ('mysql', 'sys', 'information_schema', 'performance_schema')),
@@ -16,7 +19,7 @@ SELECT 'name', of_table, of_table FROM tables_here WHERE NOT REGEXP_LIKE(TABLE_N
 UNION ALL
 SELECT DISTINCT 'collation', of_table, CONCAT(place, ' (', COLLATION_NAME, ')') FROM columns_here JOIN unique_columns USING (TABLE_SCHEMA, TABLE_NAME, COLUMN_NAME)
 WHERE DATA_TYPE IN ('char', 'varchar', 'tinytext', 'text', 'mediumtext', 'longtext') AND COLLATION_NAME <> 'utf8mb4_0900_bin'
-  AND NOT (DATA_TYPE = 'char' AND COLLATION_NAME LIKE '%\_bin')
+  AND NOT (DATA_TYPE = 'char' AND COLLATION_NAME LIKE '%\_bin') AND NOT FIND_IN_SET(REGEXP_REPLACE(COLLATION_NAME, '^utf8_', 'utf8mb3_'), @collations)
 UNION ALL
 SELECT 'columns', of_table, CONCAT(of_table, ' (', COUNT(*), ')') FROM columns_here GROUP BY of_table HAVING COUNT(*) > @most_columns
 UNION ALL

@@ -260,10 +260,12 @@ class Imported:
         """What is assumed, before the last line, which has to come, and behind what the head itself has assumed."""
         if not places or self.lines[places[-1]] != "done":
             return
-        last = bundle.assumptions[-1:]
-        bundle.assumptions += sorted(self.assumed, key=assumption_order)
-        if last and self.assumed and not assumption_order(last[0]) < assumption_order(bundle.assumptions[-1]):
+        last, found = bundle.assumptions[-1:], sorted(self.assumed + ["rows"] * ("--no-rows" in self.granted), key=assumption_order)
+        bundle.assumptions += found
+        if last and found and not assumption_order(last[0]) < assumption_order(found[0]):
             raise Refused(f"refused E14 line {places[-1] + 1} body")
+        if found[-1:] == ["rows"] and bundle.rows.carriers:
+            raise Refused(f"refused E14 line {places[-1] + 1} schema")
 
 
 def imported(text: str, options: list[str]) -> tuple[str, int, str]:

@@ -273,4 +273,5 @@ def logs_text(chance: Random) -> str:
 
 def options(chance: Random) -> list[str]:
     """Some of the options."""
-    return [it for it in ("--without-foreign-keys", "--executed-unknown") if chance.randrange(2)]
+    granted = [it for it in ("--without-foreign-keys", "--executed-unknown") if chance.randrange(2)]
+    return granted + ["--no-rows"] * (chance.randrange(4) == 0)

@@ -64,7 +64,7 @@ said_more cs c xs ys e f = f ∙ ap (λ (zs : List (Option Gtids)). zs ++ c.exec
 
 -- ---- what has come
 
-pub come_head : (terms : Terms) (start : BundleValue) (head plain text left : List ℕ) (p : ImportProgress) → HasHead terms.grants text head plain p.passed_over left → IsStart plain start → HasRead p plain
+pub come_head : (terms : Terms) (start : BundleValue) (head plain text left : List ℕ) (p : ImportProgress) → HasHead terms text head plain p.passed_over left → IsStart plain start → HasRead p plain
     → p.executed.items ≡ [] → p.assumed.items ≡ [] → p.notes.items ≡ [] → HasCome terms start text left p
 come_head terms start head plain text left p h has fed none nothing silent = record {
   head = head;
@@ -97,7 +97,7 @@ come_more terms start text left line after log behind old new channel come begin
       head = come.head;
       plain = come.plain;
       alone = come.alone;
-      plain_head = subst (IsPlainHead terms.grants come.head come.plain) (sym f.same_head) come.plain_head;
+      plain_head = subst (IsPlainHead terms.grants terms.origin.columns come.head come.plain) (sym f.same_head) come.plain_head;
       has = come.has;
       channels = come.channels ++ c ∷ [];
       front = come.front ++ log_text c;
@@ -173,8 +173,8 @@ is_last left own behind (Nowhere e) parts first = inr (front_nil own behind (sym
 is_last left own behind (Last after e) parts first = inl (first (codes "done") after (done_begins left after e)).0
 
 -- what is said before what is left is said of what has come
-says_of : (terms : Terms) (start : BundleValue) (text left other said : List ℕ) (p : ImportProgress) (come : HasCome terms start text left p) → left ≡ other → IsSaidBefore left p.assumed.items p.passed_over said → IsSaidBefore other (all_assumed come.channels) p.passed_over said
-says_of terms start text left other said p come e says = subst (λ (xs : List ℕ). IsSaidBefore xs (all_assumed come.channels) p.passed_over said) e (subst (λ (ls : List AssumedLine). IsSaidBefore left ls p.passed_over said) come.assumed says)
+says_of : (terms : Terms) (start : BundleValue) (text left other said : List ℕ) (p : ImportProgress) (come : HasCome terms start text left p) → left ≡ other → IsSaidBefore terms.grants left p.assumed.items p.passed_over said → IsSaidBefore terms.grants other (all_assumed come.channels) p.passed_over said
+says_of terms start text left other said p come e says = subst (λ (xs : List ℕ). IsSaidBefore terms.grants xs (all_assumed come.channels) p.passed_over said) e (subst (λ (ls : List AssumedLine). IsSaidBefore terms.grants left ls p.passed_over said) come.assumed says)
 
 -- what has come, where what is left is in two parts
 abbrev taken_before : (terms : Terms) (start : BundleValue) (text left other : List ℕ) (p : ImportProgress) (come : HasCome terms start text left p) → left ≡ other → HasTaken terms come.head come.plain come.front come.written other text
@@ -190,7 +190,7 @@ taken_before terms start text left other p come e = record {
 }
 
 -- what comes after the last line is refused, or that there is none
-pub end_refused : (terms : Terms) (start : BundleValue) (text left own behind said : List ℕ) (p : ImportProgress) (q : BundleProgress) (fault : JournalFault) (n : ℕ) → BeginsLast left → HasCome terms start text left p → left ≡ own ++ behind → SplitsFirst left own behind → IsSaidBefore left p.assumed.items p.passed_over said
+pub end_refused : (terms : Terms) (start : BundleValue) (text left own behind said : List ℕ) (p : ImportProgress) (q : BundleProgress) (fault : JournalFault) (n : ℕ) → BeginsLast left → HasCome terms start text left p → left ≡ own ++ behind → SplitsFirst left own behind → IsSaidBefore terms.grants left p.assumed.items p.passed_over said
     → ((before : List ℕ) → HasRead p before → IsFed q (before ++ (said ++ own))) → ((before : List ℕ) → IsFed q before → IsRefused fault (before ++ behind)) → IsLineAt text behind n → IsNoOwn terms (fault_at_line fault n) text
 end_refused terms start text left own behind said p q fault n last come parts first says fed stops at =
     let fed_own = fed come.written come.fed in
@@ -211,7 +211,7 @@ end_refused terms start text left own behind said p q fault n last come parts fi
     })))
 
 -- the last line is refused, or what is said before it, or nothing is
-pub last_refused : (terms : Terms) (start : BundleValue) (text left own behind said : List ℕ) (p : ImportProgress) (fault : JournalFault) (n : ℕ) → BeginsLast left → HasCome terms start text left p → left ≡ own ++ behind → SplitsFirst left own behind → IsSaidBefore left p.assumed.items p.passed_over said
+pub last_refused : (terms : Terms) (start : BundleValue) (text left own behind said : List ℕ) (p : ImportProgress) (fault : JournalFault) (n : ℕ) → BeginsLast left → HasCome terms start text left p → left ≡ own ++ behind → SplitsFirst left own behind → IsSaidBefore terms.grants left p.assumed.items p.passed_over said
     → ((before : List ℕ) → HasRead p before → StopsAt fault (before ++ (said ++ own))) → IsLineAt text left n → IsNoOwn terms (fault_at_line fault n) text
 last_refused terms start text left own behind said p fault n (Last after e) come parts first says stops at =
     let is : own ≡ done_line = (first (codes "done") after (done_begins left after e)).0 in
@@ -230,7 +230,7 @@ last_refused terms start text left own behind said p fault n (Last after e) come
 last_refused terms start text left own behind said p fault n (Nowhere e) come parts first says stops at =
     let none = front_nil own behind (sym e ∙ parts) in
     let nothing : left ≡ behind = parts ∙ ap (λ (xs : List ℕ). xs ++ behind) none.0 in
-    let silent : said ≡ [] = subst (λ (xs : List ℕ). IsSaidBefore xs p.assumed.items p.passed_over said) e says in
+    let silent : said ≡ [] = subst (λ (xs : List ℕ). IsSaidBefore terms.grants xs p.assumed.items p.passed_over said) e says in
     let both : said ++ own ≡ [] = (λ i. silent i ++ none.0 i) in
     let same : (xs : List ℕ) → xs ++ (said ++ own) ≡ xs = λ xs. ap (λ (ys : List ℕ). xs ++ ys) both ∙ append-nil xs in
     end_refused terms start text left own behind said p (bundle_reading p.reader) fault n (Nowhere e) come parts first says
@@ -338,7 +338,7 @@ module _ {terms : Terms} {start : BundleValue} {text left line after log behind 
 
 -- ---- the whole
 
-pub end_found : (terms : Terms) (start : BundleValue) (text left own behind said : List ℕ) (p : ImportProgress) (q : BundleProgress) (b : BundleValue) → BeginsLast left → HasCome terms start text left p → left ≡ own ++ behind → IsSaidBefore left p.assumed.items p.passed_over said
+pub end_found : (terms : Terms) (start : BundleValue) (text left own behind said : List ℕ) (p : ImportProgress) (q : BundleProgress) (b : BundleValue) → BeginsLast left → HasCome terms start text left p → left ≡ own ++ behind → IsSaidBefore terms.grants left p.assumed.items p.passed_over said
     → ((before : List ℕ) → HasRead p before → IsFed q (before ++ (said ++ own))) → ((before : List ℕ) → IsFed q before → WritesBundle (before ++ behind) b) → IsDescribed terms text b p.executed.items p.notes.items
 end_found terms start text left own behind said p q b last come parts says fed writes = record {
   channels = come.channels;
@@ -392,7 +392,7 @@ none_said b n executed journal says brings = absurd (let bad : None ≡ Some (So
 any_version : (bytes : List ℕ) (b : BundleValue) → WritesBundleBy (Only Three) bytes b → WritesBundle bytes b
 any_version bytes b w = record { lines = w.lines; parts = w.parts; fit = w.fit; written = (w.written.0, refl, w.written.2) }
 
-pub head_found : (terms : Terms) (text head plain notes rest : List ℕ) (passed_over : Bool) (b : BundleValue) → HasHead terms.grants text head plain passed_over rest → rest ≡ [] → notes ≡ [] → WritesBundleBy (Only Three) (plain ++ end_for rest) b → ImportsBundle terms text b notes
+pub head_found : (terms : Terms) (text head plain notes rest : List ℕ) (passed_over : Bool) (b : BundleValue) → HasHead terms text head plain passed_over rest → rest ≡ [] → notes ≡ [] → WritesBundleBy (Only Three) (plain ++ end_for rest) b → ImportsBundle terms text b notes
 head_found terms text head plain notes rest passed_over b h nothing silent writes = record {
   channels = [];
   describes = record {
@@ -408,7 +408,7 @@ head_found terms text head plain notes rest passed_over b h nothing silent write
     ends = Nowhere nothing;
     parts = h.cut.parts;
     assumes = [];
-    says = subst (λ (xs : List ℕ). IsSaidBefore xs [] passed_over []) (sym nothing) refl;
+    says = subst (λ (xs : List ℕ). IsSaidBefore terms.grants xs [] passed_over []) (sym nothing) refl;
     writes = subst (λ (xs : List ℕ). WritesBundle (plain ++ xs) b) (ap end_for nothing ∙ sym nothing) (any_version (plain ++ end_for rest) b writes);
     notes_are = silent;
   };
@@ -416,7 +416,7 @@ head_found terms text head plain notes rest passed_over b h nothing silent write
   within = none_said b;
 }
 
-pub head_refused : (terms : Terms) (fault found : JournalFault) (text head plain rest : List ℕ) (passed_over : Bool) (h : HasHead terms.grants text head plain passed_over rest) → IsHeadRefused fault (plain ++ end_for rest) → found ≡ fault_in_head h.plain_head.lines fault → IsNoOwn terms found text
+pub head_refused : (terms : Terms) (fault found : JournalFault) (text head plain rest : List ℕ) (passed_over : Bool) (h : HasHead terms text head plain passed_over rest) → IsHeadRefused fault (plain ++ end_for rest) → found ≡ fault_in_head h.plain_head.lines fault → IsNoOwn terms found text
 head_refused terms fault found text head plain rest passed_over h stops is = head_at terms found text (record {
   head = head;
   rest = rest;
@@ -434,7 +434,7 @@ end_more [] more = absurd (more refl)
 end_more (b ∷ bs) more = refl
 
 -- the reader of channels stops in the head
-pub start_refused : (terms : Terms) (start : BundleValue) (fault found : JournalFault) (text head plain rest : List ℕ) (passed_over : Bool) (h : HasHead terms.grants text head plain passed_over rest) → rest ≢ [] → IsStart plain start → StopsAt fault plain → found ≡ fault_in_head h.plain_head.lines fault → IsNoOwn terms found text
+pub start_refused : (terms : Terms) (start : BundleValue) (fault found : JournalFault) (text head plain rest : List ℕ) (passed_over : Bool) (h : HasHead terms text head plain passed_over rest) → rest ≢ [] → IsStart plain start → StopsAt fault plain → found ≡ fault_in_head h.plain_head.lines fault → IsNoOwn terms found text
 start_refused terms start fault found text head plain rest passed_over h more has stops is =
     head_refused terms fault found text head plain rest passed_over h
     (subst (λ (xs : List ℕ). IsHeadRefused fault (plain ++ xs)) (sym (end_more rest more)) (head_stops fault plain done_line start (any_version (plain ++ done_line) start has) stops)) is

@@ -7,3 +7,4 @@ pub mod Heading
 pub mod Saying
 pub mod Lacking
 pub mod Counting
+pub mod Weighing

@@ -14,6 +14,7 @@ use Rattle.gtid_set.specs.declared.fault.SetFault.{SetFault}
 use Rattle.gtid_set.specs.declared.fault.SetFault.TheVariants.{Memory}
 use Rattle.binlog_bundle.specs.Lines.{with_line_feed}
 use Rattle.binlog_bundle.specs.declared.assumed.AssumedLine.{AssumedLine}
+use Rattle.binlog_bundle.specs.declared.grants.Grants.{Grants}
 
 -- ---- lines
 
@@ -32,6 +33,10 @@ opening_line channel part = record { rank = 2; text = codes "assume opening " ++
 -- foreign keys aren't looked at
 abbrev pub references_line : List ℕ
 references_line = codes "assume references"
+
+-- the opening rows aren't known
+abbrev pub rows_line : List ℕ
+rows_line = codes "assume rows"
 
 -- the order of a bundle's lines `assume ..` of channels: by their kinds, and within a kind by their bytes
 abbrev pub line_cmp : AssumedLine → AssumedLine → Ordering
@@ -58,6 +63,10 @@ assumed_of channel opened executed unchecked = checksums_lines channel unchecked
 abbrev pub references_text : Bool → List ℕ
 references_text passed_over = if passed_over then with_line_feed references_line else []
 
+-- of the opening rows, if it is granted that they aren't known
+abbrev pub rows_text : Grants → List ℕ
+rows_text grants = if grants.no_rows then with_line_feed rows_line else []
+
 -- why the lines of a channel are not made: out of memory, or the part of the opening set has too many intervals
 abbrev pub IsPartFault : SetFault → Gtids → Option Gtids → Type 0
 IsPartFault fault opened None = fault ≡ Memory
@@ -68,14 +77,14 @@ IsPartFault fault opened (Some executed) = IsFaultOf fault (set.difference opene
 abbrev pub text_of : List AssumedLine → List ℕ
 text_of lines = flat_map (λ line. with_line_feed line.text) lines
 
--- The lines of channels in their order, and then that of the head.
-pub record IsAssumeText (of_channels : List AssumedLine) (passed_over : Bool) (text : List ℕ) : Type 0 where
+-- The lines of channels in their order, and then those of the head and of its rows.
+pub record IsAssumeText (grants : Grants) (of_channels : List AssumedLine) (passed_over : Bool) (text : List ℕ) : Type 0 where
   pub lines : List AssumedLine
   pub each : IsPermutation of_channels lines
   pub order : IsSorted line_cmp lines
-  pub text_is : text ≡ text_of lines ++ references_text passed_over
+  pub text_is : text ≡ (text_of lines ++ references_text passed_over) ++ rows_text grants
 
 -- that text, if the last line of a bundle comes next; nothing, if nothing does
-abbrev pub IsSaidBefore : List ℕ → List AssumedLine → Bool → List ℕ → Type 0
-IsSaidBefore [] of_channels passed_over said = said ≡ []
-IsSaidBefore (b ∷ bs) of_channels passed_over said = IsAssumeText of_channels passed_over said
+abbrev pub IsSaidBefore : Grants → List ℕ → List AssumedLine → Bool → List ℕ → Type 0
+IsSaidBefore grants [] of_channels passed_over said = said ≡ []
+IsSaidBefore grants (b ∷ bs) of_channels passed_over said = IsAssumeText grants of_channels passed_over said

@@ -84,7 +84,7 @@ pub record DescribesBundle (terms : Terms) (text : List ℕ) (channels : List Im
   pub plain : List ℕ
   pub passed_over : Bool
   pub alone : HasNoOwn head
-  pub plain_head : IsPlainHead terms.grants head plain passed_over
+  pub plain_head : IsPlainHead terms.grants terms.origin.columns head plain passed_over
   pub front : List ℕ
   pub written : List ℕ
   pub corresponds : Corresponds terms head plain channels front written
@@ -92,7 +92,7 @@ pub record DescribesBundle (terms : Terms) (text : List ℕ) (channels : List Im
   pub ends : BeginsLast tail
   pub parts : text ≡ front ++ tail
   pub assumes : List ℕ
-  pub says : IsSaidBefore tail (all_assumed channels) passed_over assumes
+  pub says : IsSaidBefore terms.grants tail (all_assumed channels) passed_over assumes
   pub writes : WritesBundle (written ++ (assumes ++ tail)) b
   pub notes_are : notes ≡ flat_map (λ c. c.notes) channels
 

@@ -31,9 +31,9 @@ use Rattle.binlog_bundle.specs.declared.fault.ChannelFault.{ChannelFault}
 use Rattle.binlog_bundle.specs.declared.fault.ChannelFault.TheVariants as channels
 
 -- this is the head of the text, with its plain head, whether lines of it were passed over, and the text from there on
-pub record HasHead (grants : Grants) (text head plain : List ℕ) (passed_over : Bool) (rest : List ℕ) : Type 0 where
+pub record HasHead (terms : Terms) (text head plain : List ℕ) (passed_over : Bool) (rest : List ℕ) : Type 0 where
   pub cut : IsCut text head rest
-  pub plain_head : IsPlainHead grants head plain passed_over
+  pub plain_head : IsPlainHead terms.grants terms.origin.columns head plain passed_over
 
 -- the reader of bundles has read these bytes
 abbrev pub HasRead : ImportProgress → List ℕ → Type 0
@@ -45,7 +45,7 @@ pub record HasCome (terms : Terms) (start : BundleValue) (text left : List ℕ) 
   pub head : List ℕ
   pub plain : List ℕ
   pub alone : HasNoOwn head
-  pub plain_head : IsPlainHead terms.grants head plain progress.passed_over
+  pub plain_head : IsPlainHead terms.grants terms.origin.columns head plain progress.passed_over
   pub has : IsStart plain start
   pub channels : List ImportedLog
   pub front : List ℕ

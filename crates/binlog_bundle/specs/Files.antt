@@ -38,11 +38,14 @@ abbrev pub HasNoFiles : List ChannelFiles → List ℕ → List ℕ → Gtids �
 HasNoFiles channels name text opening (sources.Text fault) = ⊥
 HasNoFiles channels name text opening (sources.Logless why.Surplus) = text ≢ []
 HasNoFiles channels name text opening (sources.Logless why.Missing) = (text ≡ []) × (files_of name channels ≡ None)
+HasNoFiles channels name text opening (sources.Logless (why.Collation table column)) = ⊥
+HasNoFiles channels name text opening (sources.Logless (why.Weights gtid table column)) = ⊥
 HasNoFiles channels name text opening (sources.File fault) = (text ≡ []) × (files : List (List ℕ)) × (files_of name channels ≡ Some files) × StopsInFiles opening files fault
 
 -- The log of a channel is in the files whose name it is. Damage in it couldn't be seen where one of them has no checksums.
 abbrev pub files : List ChannelFiles → Origin
 files channels = record {
+  columns = [];
   is_log = (λ name text opening previous entries varied. HasFiles channels name text opening previous entries varied);
   is_unchecked = (λ name. any_unchecked (files_of name channels));
   refuses = (λ name text opening fault. HasNoFiles channels name text opening fault);

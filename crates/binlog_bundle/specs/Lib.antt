@@ -2,6 +2,7 @@ pub mod Lines
 pub mod Tables
 pub mod Notes
 pub mod Assumed
+pub mod Collated
 pub mod Heads
 pub mod Executed
 pub mod Logs
@@ -9,3 +10,5 @@ pub mod Files
 pub mod Bundles
 pub mod Refused
 pub mod Channels
+pub mod Others
+pub mod Weighed

@@ -1,9 +1,10 @@
 -- Where the logs of channels come from, and what an operator grants.
-use Rattle.std.specs.Prelude.{◌≡◌, ◌⊎◌, ℕ, Bool, false, List}
+use Rattle.std.specs.Prelude.{◌≡◌, ◌⊎◌, ℕ, Bool, false, List, []}
 use Rattle.gtid_set.specs.Sets.{Gtids}
 use Rattle.gtid_set.specs.declared.fault.SetFault.TheVariants.{Memory}
 use Rattle.journal.specs.declared.Entry.{Entry}
 use Rattle.log_transactions.specs.declared.varied.Varied.{Varied}
+use Rattle.derived_columns.specs.declared.column.WeighedColumn.{WeighedColumn}
 use Rattle.txn_journal.specs.BundleStates.{BundleValue}
 use Rattle.binlog_entries.specs.Imports.{IsWritten, IsNotWritten}
 use Rattle.binlog_entries.specs.Stream.{IsLog, Refuses}
@@ -16,6 +17,8 @@ use Rattle.binlog_bundle.specs.declared.fault.SourceFault.TheVariants as sources
 
 -- Where the logs of channels come from, by the channel's name and the text behind its line.
 pub record Origin : Type 1 where
+  -- the columns whose weights stand in hidden columns, behind the others in each image
+  pub columns : List WeighedColumn
   -- If these GTIDs are in the opening set, the channel has a log, and this is in it: what was executed before, its entries, and the columns
   -- that the server compares otherwise than by their bytes.
   pub is_log : List ℕ → List ℕ → Gtids → Gtids → List Entry → List Varied → Type 0
@@ -68,6 +71,7 @@ IsNoText opening text (sources.File fault) = ⊥
 -- the text behind the line of a channel is that of its log, whatever its name is
 abbrev pub texts : Origin
 texts = record {
+  columns = [];
   is_log = (λ name text opening previous entries varied. IsLog opening text previous entries varied);
   is_unchecked = (λ name. false);
   refuses = (λ name text opening fault. IsNoText opening text fault);

@@ -125,7 +125,7 @@ pub record IsNoHead (terms : Terms) (fault : JournalFault) (text : List ℕ) : T
   pub cut : IsCut text head rest
   pub plain : List ℕ
   pub passed_over : Bool
-  pub plain_head : IsPlainHead terms.grants head plain passed_over
+  pub plain_head : IsPlainHead terms.grants terms.origin.columns head plain passed_over
   pub own : JournalFault
   pub stops : IsHeadRefused own (plain ++ end_for rest)
   pub at : fault ≡ fault_in_head plain_head.lines own
@@ -142,7 +142,7 @@ pub record HasUnsupported (terms : Terms) (what text : List ℕ) : Type 0 where
 pub record HasTaken (terms : Terms) (head plain front written left text : List ℕ) : Type 0 where
   pub alone : HasNoOwn head
   pub passed_over : Bool
-  pub plain_head : IsPlainHead terms.grants head plain passed_over
+  pub plain_head : IsPlainHead terms.grants terms.origin.columns head plain passed_over
   pub channels : List ImportedLog
   pub corresponds : Corresponds terms head plain channels front written
   pub parts : text ≡ front ++ left
@@ -181,7 +181,7 @@ pub record IsNoLast (terms : Terms) (fault : JournalFault) (line : ℕ) (text : 
   pub after : List ℕ
   pub come : HasTaken terms head plain front written (done_line ++ after) text
   pub assumes : List ℕ
-  pub says : IsAssumeText (all_assumed come.channels) come.passed_over assumes
+  pub says : IsAssumeText terms.grants (all_assumed come.channels) come.passed_over assumes
   pub stops : StopsAt fault (written ++ (assumes ++ done_line))
   pub number : line ≡ next_number (lines_in front)
 
@@ -197,7 +197,7 @@ pub record IsNoEnd (terms : Terms) (fault : JournalFault) (line : ℕ) (text : L
   pub come : HasTaken terms head plain front written (last ++ behind) text
   pub ends : IsLast last behind
   pub assumes : List ℕ
-  pub says : IsSaidBefore (last ++ behind) (all_assumed come.channels) come.passed_over assumes
+  pub says : IsSaidBefore terms.grants (last ++ behind) (all_assumed come.channels) come.passed_over assumes
   pub taken : IsTaken (written ++ (assumes ++ last))
   pub stops : IsRefused fault (written ++ ((assumes ++ last) ++ behind))
   pub number : line ≡ next_number (lines_in (front ++ last))

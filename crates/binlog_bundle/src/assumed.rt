@@ -1,11 +1,12 @@
-//! What is assumed of a bundle of logs, as lines of the bundle: what was granted of its channels and of its head, what of the opening set
+//! What is assumed of a bundle of logs, as lines of the bundle: what was granted of its channels, its head and its rows, what of the opening set
 //! the servers of channels hadn't executed, and which logs may be damaged unseen.
 ghost use Rattle.std.specs.Prelude.{◌≡◌, ◌++◌, ◌∷◌, [], IfOk, OnOk, IfErr};
 ghost use Rattle.std.specs.FinSet as set;
 ghost use Rattle.gtid_set.specs.Full.{IsFaultOf};
 ghost use Rattle.binlog_bundle.specs.Lines.{with_line_feed};
-ghost use Rattle.binlog_bundle.specs.Assumed.{executed_line, checksums_line, opening_line, opening_lines, checksums_lines, executed_lines, assumed_of, references_text, text_of, IsAssumeText, IsSaidBefore, IsPartFault};
+ghost use Rattle.binlog_bundle.specs.Assumed.{executed_line, checksums_line, opening_line, opening_lines, checksums_lines, executed_lines, assumed_of, references_text, rows_text, text_of, IsAssumeText, IsSaidBefore, IsPartFault};
 
+use crate::grants::Grants;
 use gtid_set::{GtidSet, SetFault};
 use row_images::ByteString;
 use std::alloc::{AllocError, Global};
@@ -175,33 +176,46 @@ fn put_references(text: &mut Vec<u8>, passed_over: bool) -> Result<(), AllocErro
     Ok(())
 }
 
-/// The text of all lines: those of channels, in their order, and then that of references.
+/// Puts the line that says that the opening rows aren't known, if that is granted.
+fn put_rows(text: &mut Vec<u8>, grants: Grants) -> Result<(), AllocError>
+    ensures { OnOk result (text.new.items ≡ text.old.items ++ rows_text grants) }
+{
+    if grants.no_rows {
+        put_line(text, b"assume rows")?;
+    }
+    Ok(())
+}
+
+/// The text of all lines: those of channels, in their order, and then that of references and that of rows.
 fn assume_text(
     alloc: Global,
+    grants: Grants,
     lines: Vec<AssumedLine>,
     passed_over: bool,
 ) -> Result<Vec<u8>, AllocError>
-    ensures { IfOk result (λ text. IsAssumeText lines.items passed_over text.items) }
+    ensures { IfOk result (λ text. IsAssumeText grants lines.items passed_over text.items) }
 {
     let mut lines = lines;
     lines.sort_unstable();
     let mut text = Vec::new(alloc);
     put_lines(&mut text, &lines)?;
     put_references(&mut text, passed_over)?;
+    put_rows(&mut text, grants)?;
     Ok(text)
 }
 
 /// The text of all lines, where the last line of a bundle comes next; no text, where nothing does.
 pub fn said_before(
     alloc: Global,
+    grants: Grants,
     left: &[u8],
     lines: Vec<AssumedLine>,
     passed_over: bool,
 ) -> Result<Vec<u8>, AllocError>
-    ensures { IfOk result (λ text. IsSaidBefore left.now lines.items passed_over text.items) }
+    ensures { IfOk result (λ text. IsSaidBefore grants left.now lines.items passed_over text.items) }
 {
     if left.is_empty() {
         return Ok(Vec::new(alloc));
     }
-    assume_text(alloc, lines, passed_over)
+    assume_text(alloc, grants, lines, passed_over)
 }

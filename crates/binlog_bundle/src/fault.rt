@@ -5,16 +5,21 @@ ghost use Rattle.binlog_bundle.specs.Refused.{fault_at_line, channel_fault_at};
 use binlog_entries::{ImportFault, ReadFault};
 use binlog_files::FiledFault;
 use gtid_set::GtidSet;
+use gtid_text::Gtid;
 use rows::Name;
 use txn_journal::JournalFault;
 
-/// Why a channel has no log, by what is behind its line.
-#[derive(Clone, Copy, Debug, PartialEq, Eq)]
+/// Why a channel has no log with hidden columns, whatever its text or its files are.
+#[derive(Drop)]
 pub enum Logless {
     /// There are no files of a channel of this name.
     Missing,
     /// There is text, though logs are read from files.
     Surplus,
+    /// The log says that the server compares this column of this table, counted from 0, otherwise than by the collation that the head names.
+    Collation(Name, u32),
+    /// In the entry of this GTID a value of this column of this table is no text of the column's character set, or is missing.
+    Weights(Gtid, Name, u32),
 }
 
 /// Why a channel has no log.

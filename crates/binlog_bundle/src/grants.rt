@@ -9,4 +9,6 @@ pub struct Grants {
     pub without_foreign_keys: bool,
     /// The line of a channel needn't say what its server had executed.
     pub executed_unknown: bool,
+    /// The opening rows aren't known, and the head has none.
+    pub no_rows: bool,
 }

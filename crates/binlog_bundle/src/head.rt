@@ -1,22 +1,32 @@
-//! The head of a bundle of logs: lines of the bundle, and lines that name what it can't hold.
-ghost use Rattle.std.specs.Prelude.{◌≡◌, ◌++◌, ◌||◌, ℕ, Bool, List, IsTrue, IfOk, IfErr, OnOk, true};
+//! The head of a bundle of logs: lines of the bundle, lines that name what it can't hold, and lines that name collations.
+ghost use Rattle.std.specs.Prelude.{◌≡◌, ◌++◌, ◌||◌, ℕ, Bool, List, IsTrue, IfOk, IfErr, OnOk, true, false, is_some};
 ghost use Rattle.binlog_bundle.specs.Lines.{with_line_feed, AreLines};
-ghost use Rattle.binlog_bundle.specs.Heads.{is_unsupported, is_granted, is_granted_key, plain_text, place_of, IsPlainHead, IsNoPlainHead, IsNotGranted};
+ghost use Rattle.binlog_bundle.specs.Collated.{collated, weighed_line, columns_of};
+ghost use Rattle.binlog_bundle.specs.Heads.{is_unsupported, is_collate, is_passed, is_granted, is_granted_key, plain_text, place_of, IsPlainHead, IsNoPlainHead, IsNotGranted, IsNoGrantedKey, IsNoCollate};
 ghost use Rattle.binlog_bundle.specs.Refused.{fault_in_head};
 ghost use Rattle.binlog_bundle.specs.declared.head.HeadFault.TheVariants as heads;
 
+use crate::collate_lines::{collated, collated_columns, put_weighed};
 use crate::grants::Grants;
 use crate::lines::strip;
 use binlog_entries::cut_line;
+use derived_columns::Derivation;
 use std::alloc::{AllocError, Global};
 use txn_journal::JournalFault;
 
-/// A head without its lines `unsupported ..`.
+/// A head as that of a bundle.
 #[derive(Drop)]
 pub struct PlainHead {
     pub text: Vec<u8>,
-    /// Whether there was such a line: each was passed over.
+    /// Whether there was a line `unsupported ..`: each was passed over.
     pub passed_over: bool,
+}
+
+/// A head as that of a bundle, and the columns whose weights stand in hidden columns.
+#[derive(Drop)]
+pub struct WeighedHead {
+    pub plain: PlainHead,
+    pub derivation: Derivation,
 }
 
 /// Why a head is not taken.
@@ -42,6 +52,20 @@ fn is_unsupported(line: &[u8]) -> bool
     line.starts_with(b"unsupported ")
 }
 
+/// Whether a line names the collation of a column.
+fn is_collate(line: &[u8]) -> bool
+    ensures { result ≡ is_collate line.now }
+{
+    line.starts_with(b"collate ")
+}
+
+/// Whether a line is no line of the bundle.
+fn is_passed(line: &[u8]) -> bool
+    ensures { result ≡ is_passed line.now }
+{
+    is_unsupported(line) || is_collate(line)
+}
+
 /// Whether what is unsupported is a foreign key, and that is granted.
 fn is_granted_key(grants: Grants, what: &[u8]) -> bool
     ensures { result ≡ is_granted_key grants what.now }
@@ -49,39 +73,96 @@ fn is_granted_key(grants: Grants, what: &[u8]) -> bool
     grants.without_foreign_keys && what.starts_with(b"foreign-key ")
 }
 
+/// Looks whether a line `collate ..` names a collation whose weights are known.
+fn take_collate(alloc: Global, line: &[u8]) -> Result<(), HeadFault>
+    ensures granted { OnOk result (is_some (collated line.now) ≡ true) }
+    ensures refused { IfErr result (IsNoCollate line.now) }
+{
+    if collated(alloc, line)?.is_none() {
+        return Err(HeadFault::Unsupported(line.to_vec(alloc)?));
+    }
+    Ok(())
+}
+
 impl PlainHead {
-    /// Takes a line of the bundle.
-    fn take_plain(&mut self, line: &[u8]) -> Result<(), AllocError>
-        ensures text { OnOk result (self.new.text.items ≡ self.old.text.items ++ with_line_feed line.now) }
+    /// Takes a line of the bundle; a row with its hidden values behind.
+    fn take_plain(
+        &mut self,
+        alloc: Global,
+        derivation: &Derivation,
+        line: &[u8],
+    ) -> Result<(), AllocError>
+        ensures text { OnOk result (self.new.text.items ≡ self.old.text.items ++ with_line_feed (weighed_line derivation.now line.now)) }
         ensures passed { self.new.passed_over ≡ self.old.passed_over }
     {
-        self.text.extend_from_slice(line)?;
+        put_weighed(alloc, &mut self.text, derivation, line)?;
         self.text.push(b'\n')?;
         Ok(())
     }
 
-    /// Takes a line of the head.
-    fn take_line(&mut self, alloc: Global, grants: Grants, line: &[u8]) -> Result<(), HeadFault>
-        ensures granted { OnOk result (is_granted grants line.now ≡ true) }
-        ensures text { OnOk result (self.new.text.items ≡ self.old.text.items ++ plain_text line.now) }
-        ensures passed { OnOk result (self.new.passed_over ≡ (self.old.passed_over || is_unsupported line.now)) }
-        ensures refused { IfErr result (IsNotGranted grants line.now) }
+    /// Passes over a line that names what a bundle can't hold, behind the word `unsupported`.
+    fn pass_over(&mut self, alloc: Global, grants: Grants, what: &[u8]) -> Result<(), HeadFault>
+        ensures granted { OnOk result (is_granted_key grants what.now ≡ true) }
+        ensures text { self.new.text.items ≡ self.old.text.items }
+        ensures passed { OnOk result (self.new.passed_over ≡ true) }
+        ensures refused { IfErr result (λ fault. IsNoGrantedKey grants what.now fault) }
     {
-        let Some(what) = strip(line, b"unsupported ") else {
-            self.take_plain(line)?;
-            return Ok(());
-        };
         if !is_granted_key(grants, what) {
             return Err(HeadFault::Unsupported(what.to_vec(alloc)?));
         }
         self.passed_over = true;
         Ok(())
     }
+
+    /// Takes a line of the head that is none `unsupported ..`.
+    fn take_other(
+        &mut self,
+        alloc: Global,
+        grants: Grants,
+        derivation: &Derivation,
+        line: &[u8],
+    ) -> Result<(), HeadFault>
+        requires { is_unsupported line.now ≡ false }
+        ensures granted { OnOk result (is_granted grants line.now ≡ true) }
+        ensures text { OnOk result (self.new.text.items ≡ self.old.text.items ++ plain_text derivation.now line.now) }
+        ensures passed { self.new.passed_over ≡ self.old.passed_over }
+        ensures refused { IfErr result (IsNotGranted grants line.now) }
+    {
+        if is_collate(line) {
+            return take_collate(alloc, line);
+        }
+        Ok(self.take_plain(alloc, derivation, line)?)
+    }
+
+    /// Takes a line of the head.
+    fn take_line(
+        &mut self,
+        alloc: Global,
+        grants: Grants,
+        derivation: &Derivation,
+        line: &[u8],
+    ) -> Result<(), HeadFault>
+        ensures granted { OnOk result (is_granted grants line.now ≡ true) }
+        ensures text { OnOk result (self.new.text.items ≡ self.old.text.items ++ plain_text derivation.now line.now) }
+        ensures passed { OnOk result (self.new.passed_over ≡ (self.old.passed_over || is_unsupported line.now)) }
+        ensures refused { IfErr result (IsNotGranted grants line.now) }
+    {
+        match strip(line, b"unsupported ") {
+            Some(what) => self.pass_over(alloc, grants, what),
+            None => self.take_other(alloc, grants, derivation, line),
+        }
+    }
 }
 
-/// The head without its lines `unsupported ..`, each of which has to be granted.
-pub fn plain_head(alloc: Global, grants: Grants, head: &[u8]) -> Result<PlainHead, HeadFault>
-    ensures found { IfOk result (λ plain. IsPlainHead grants head.now plain.text.items plain.passed_over) }
+/// The head as that of a bundle, each line of which has to be the bundle's or granted.
+fn plain_head(
+    alloc: Global,
+    grants: Grants,
+    derivation: &Derivation,
+    head: &[u8],
+) -> Result<PlainHead, HeadFault>
+    requires { (lines : List (List ℕ)) → AreLines lines head.now → derivation.now ≡ columns_of lines }
+    ensures found { IfOk result (λ plain. IsPlainHead grants derivation.now head.now plain.text.items plain.passed_over) }
     ensures refused { IfErr result (λ fault. IsNoPlainHead grants head.now fault) }
 {
     let mut plain = PlainHead {
@@ -90,13 +171,26 @@ pub fn plain_head(alloc: Global, grants: Grants, head: &[u8]) -> Result<PlainHea
     };
     let mut left = head;
     while let Some((line, after)) = cut_line(left) {
-        match plain.take_line(alloc, grants, line) {
+        match plain.take_line(alloc, grants, derivation, line) {
             Ok(()) => left = after,
             Err(fault) => return Err(fault),
         }
     }
     plain.text.extend_from_slice(left)?;
     Ok(plain)
+}
+
+/// The head as that of a bundle, and the columns that its lines `collate ..` name.
+pub fn weighed_head(alloc: Global, grants: Grants, head: &[u8]) -> Result<WeighedHead, HeadFault>
+    ensures found { IfOk result (λ h. IsPlainHead grants h.derivation head.now h.plain.text.items h.plain.passed_over) }
+    ensures refused { IfErr result (λ fault. IsNoPlainHead grants head.now fault) }
+{
+    let columns = collated_columns(alloc, head)?;
+    let derivation = Derivation::of(alloc, columns)?;
+    match plain_head(alloc, grants, &derivation, head) {
+        Ok(plain) => Ok(WeighedHead { plain, derivation }),
+        Err(fault) => Err(fault),
+    }
 }
 
 /// The number, among all lines of a head, of the line that is the nth of the bundle's.
@@ -107,7 +201,7 @@ fn place_of(head: &[u8], n: u64) -> u64
     let mut due = n;
     let mut skipped = 0;
     while let Some((line, after)) = cut_line(left) {
-        if is_unsupported(line) {
+        if is_passed(line) {
             skipped += 1;
         } else if due <= 1 {
             return n.saturating_add(skipped);

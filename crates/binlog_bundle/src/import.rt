@@ -3,6 +3,7 @@ ghost use Rattle.std.specs.Prelude.{◌≡◌, ◌≢◌, [], IfOk, IfErr};
 ghost use Rattle.txn_journal.specs.BundleReaders.{bundle_reading};
 ghost use Rattle.binlog_bundle.specs.Bundles.{BeginsLast, IsStart, ImportsBundle};
 ghost use Rattle.binlog_bundle.specs.Files.{files};
+ghost use Rattle.binlog_bundle.specs.Weighed.{ImportsLogs, IsNoImportOfLogs};
 ghost use Rattle.binlog_bundle.specs.Logs.{terms_of, texts};
 ghost use Rattle.binlog_bundle.specs.Refused.{end_for, IsNoBundle};
 ghost use Rattle.binlog_bundle.specs.Channels.{HasCome, HasHead, IsDescribed};
@@ -13,10 +14,11 @@ use crate::executed::first_lack;
 use crate::fault::{BundleFault, fault_at_line};
 use crate::files::{ChannelFiles, FileLogs};
 use crate::grants::Grants;
-use crate::head::{HeadFault, PlainHead, fault_in_head, plain_head};
+use crate::head::{HeadFault, PlainHead, WeighedHead, fault_in_head, weighed_head};
 use crate::lines::{cut_own, line_at, split_line};
 use crate::logs::{Logs, TextLogs};
 use crate::reading::{add, add_both, close, read_head};
+use crate::weighed::WeighedLogs;
 use gtid_set::{GtidSet, SetFault};
 use std::alloc::Global;
 use txn_journal::{Bundle, BundleReader, JournalFault};
@@ -77,7 +79,7 @@ fn end<L: Logs>(
         notes,
     } = progress;
     let mut reader = reader;
-    let Ok(said) = said_before(alloc, left, assumed, passed_over) else {
+    let Ok(said) = said_before(alloc, grants, left, assumed, passed_over) else {
         return Err(BundleFault::Own(JournalFault::Set(SetFault::Memory)));
     };
     let (line, behind) = split_line(left);
@@ -102,7 +104,7 @@ fn import_channels<L: Logs>(
     text: &[u8],
     rest: &[u8],
 ) -> Result<ImportedBundle, BundleFault>
-    requires head { HasHead grants text.now head.now plain.text.items plain.passed_over rest.now }
+    requires head { HasHead (terms_of grants (L.origin logs.now)) text.now head.now plain.text.items plain.passed_over rest.now }
     requires begins { IsStart plain.text.items start.now }
     requires more { rest.now ≢ [] }
     ensures found { IfOk result (λ i. ImportsBundle (terms_of grants (L.origin logs.now)) text.now i.bundle i.notes.items) }
@@ -142,7 +144,7 @@ fn import_plain<L: Logs>(
     text: &[u8],
     rest: &[u8],
 ) -> Result<ImportedBundle, BundleFault>
-    requires { HasHead grants text.now head.now plain.text.items plain.passed_over rest.now }
+    requires { HasHead (terms_of grants (L.origin logs.now)) text.now head.now plain.text.items plain.passed_over rest.now }
     ensures found { IfOk result (λ i. ImportsBundle (terms_of grants (L.origin logs.now)) text.now i.bundle i.notes.items) }
     ensures refused { IfErr result (λ fault. IsNoBundle (terms_of grants (L.origin logs.now)) fault text.now) }
 {
@@ -168,14 +170,19 @@ pub fn import_bundle_from<L: Logs>(
 ) -> Result<ImportedBundle, BundleFault>
     // Its text is the other one with the journals of the channels' logs, and with the lines of what is assumed before the last one; what was
     // executed is within it, and this is noted.
-    ensures found { IfOk result (λ i.
-        ImportsBundle (terms_of grants (L.origin logs.now)) text.now i.bundle i.notes.items) }
+    ensures found { IfOk result (λ i. ImportsLogs grants (L.origin logs.now) text.now i.bundle i.notes.items) }
     // Which line is the first that is refused, which log describes no journal of that bundle, or which channel's server had executed more.
-    ensures refused { IfErr result (λ fault. IsNoBundle (terms_of grants (L.origin logs.now)) fault text.now) }
+    ensures refused { IfErr result (λ fault. IsNoImportOfLogs grants (L.origin logs.now) fault text.now) }
 {
     let (head, rest) = cut_own(text);
-    match plain_head(alloc, grants, head) {
-        Ok(plain) => import_plain(alloc, grants, logs, head, plain, text, rest),
+    match weighed_head(alloc, grants, head) {
+        Ok(WeighedHead { plain, derivation }) => {
+            let logs = WeighedLogs {
+                logs,
+                derivation: &derivation,
+            };
+            import_plain(alloc, grants, &logs, head, plain, text, rest)
+        }
         Err(HeadFault::Memory) => Err(BundleFault::Own(JournalFault::Set(SetFault::Memory))),
         Err(HeadFault::Unsupported(what)) => Err(BundleFault::Unsupported(what)),
     }
@@ -187,8 +194,8 @@ pub fn import_bundle(
     grants: Grants,
     text: &[u8],
 ) -> Result<ImportedBundle, BundleFault>
-    ensures found { IfOk result (λ i. ImportsBundle (terms_of grants texts) text.now i.bundle i.notes.items) }
-    ensures refused { IfErr result (λ fault. IsNoBundle (terms_of grants texts) fault text.now) }
+    ensures found { IfOk result (λ i. ImportsLogs grants texts text.now i.bundle i.notes.items) }
+    ensures refused { IfErr result (λ fault. IsNoImportOfLogs grants texts fault text.now) }
 {
     import_bundle_from(alloc, grants, &TextLogs, text)
 }
@@ -202,8 +209,8 @@ pub fn import_files(
     text: &[u8],
 ) -> Result<ImportedBundle, BundleFault>
     ensures found { IfOk result (λ i.
-        ImportsBundle (terms_of grants (files channels.now)) text.now i.bundle i.notes.items) }
-    ensures refused { IfErr result (λ fault. IsNoBundle (terms_of grants (files channels.now)) fault text.now) }
+        ImportsLogs grants (files channels.now) text.now i.bundle i.notes.items) }
+    ensures refused { IfErr result (λ fault. IsNoImportOfLogs grants (files channels.now) fault text.now) }
 {
     import_bundle_from(alloc, grants, &FileLogs { channels }, text)
 }

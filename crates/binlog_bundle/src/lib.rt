@@ -3,10 +3,12 @@
 //!
 //! The input is a bundle of version 3 with the text of a channel's logs, or nothing, in the place of its journal, and which says two things
 //! more. The line of a channel, `channel <name>[ preserve] executed <set>`, says what its server had executed when the logs were taken. Lines
-//! `unsupported <what> <where>` before the first channel name what a bundle can't hold, such as a foreign key. The text is cut at the lines
+//! `unsupported <what> <where>` before the first channel name what a bundle can't hold, such as a foreign key. Lines `collate <table> <column>
+//! <collation>` there say what hidden columns hold: the weights of a column's texts. The text is cut at the lines
 //! of the bundle's own (`channel ..`, `done`), which no line of a log is (`logs_are_not_cut`). Each log is written as a journal by
 //! `binlog_entries::journal_of`, and the reader of bundles is fed with the lines of the bundle, as they are without these two, and
-//! with the text of each journal in its place.
+//! with the text of each journal in its place. Rows of the head and entries of logs get their hidden values on the way (`weighed`); a log that
+//! says that such a column is compared by another collation is refused, and one with a text that has no weights.
 //!
 //! What a bundle would hide is refused: a line `unsupported ..`; a channel's line that doesn't say what was executed; and a channel whose
 //! server had executed anything that is neither in the opening set, nor in the set that was executed before its log, nor an entry of it.
@@ -15,10 +17,10 @@
 //! couldn't be seen; of keys there is a note.
 //!
 //! What a contract sees: how a text is imported (`Terms`: what is granted, and where logs come from, `Origin`), a text, the bundle that it
-//! describes and the notes (`ImportsBundle`): head and lines of channels are the same but for what was added, the journal of each channel
+//! describes and the notes (`ImportsLogs`): head and lines of channels are the same but for what was added, the journal of each channel
 //! is that of its log (`BringsJournal`), before the last line are the lines of exactly what is assumed, and what was executed lies within. A
 //! refusal is one of a log, of a line of the bundle's own, of a key, of a line `unsupported ..` or of what was executed, with its line or
-//! channel (`IsNoBundle`); lines count over the whole text.
+//! channel (`IsNoImportOfLogs`); lines count over the whole text.
 //!
 //! Not proved: that what mysqlbinlog prints is what the server logged, that the sets and the lines `unsupported ..` are what the server
 //! answered, and that each text which means a bundle is accepted: lines elsewhere than mysqlbinlog puts them are refused. Cost, from the
@@ -27,6 +29,7 @@
 
 mod assumed;
 mod channels;
+mod collate_lines;
 mod executed;
 mod fault;
 mod files;
@@ -39,6 +42,7 @@ mod logs;
 mod notes;
 mod reading;
 mod tables;
+mod weighed;
 
 pub use fault::{BundleFault, Logless, SourceFault};
 pub use files::{ChannelFiles, FileLogs};

@@ -1,5 +1,5 @@
 -- What each line leaves of what was executed before, of what came, and of the columns that the server compares otherwise than their bytes.
-use Rattle.std.proofs.Common.{◌≡◌, ℕ, Bool, true, false, cond, List, [], ◌∷◌, ◌++◌, Option, Some, None, Result, Ok, Err, refl, sym, ap, ◌∙◌, subst, length}
+use Rattle.std.proofs.Common.{◌≡◌, ℕ, Bool, true, false, cond, List, [], ◌∷◌, ◌++◌, Option, Some, None, Ok, refl, sym, ap, ◌∙◌, subst, length}
 use Rattle.std.specs.FinSet as set
 use Rattle.gtid_set.specs.Sets.{Gtids}
 use Rattle.gtid_text.specs.declared.Gtid.{Gtid}
@@ -9,27 +9,25 @@ use Rattle.log_transactions.specs.Events as logged
 use Rattle.log_transactions.specs.Files.{has_come, come_behind}
 use Rattle.log_transactions.specs.Machine.{LogState, unless, refusal, behind, previous_behind}
 use Rattle.log_transactions.specs.Machine as transactions
-use Rattle.log_transactions.specs.declared.fault.EventRefusal.{EventRefusal}
 use Rattle.log_transactions.specs.declared.fault.EventRefusal.TheVariants as logs
 use Rattle.log_transactions.specs.declared.stages.FileOrder.{FileOrder}
 use Rattle.log_transactions.specs.declared.stages.FileOrder.TheVariants as files
 use Rattle.log_transactions.specs.declared.varied.Varied.{Varied}
-use Rattle.binlog_text.specs.Types.{compares_bytes}
+use Rattle.binlog_text.specs.Types.{compares_bytes, collation_in}
 use Rattle.binlog_text.specs.declared.lines.LogEvent.{LogEvent}
 use Rattle.binlog_text.specs.declared.lines.LogEvent.TheVariants as events
 use Rattle.binlog_text.specs.declared.lines.Mark.{Mark}
 use Rattle.binlog_text.specs.declared.lines.Mark.TheVariants as marks
-use Rattle.binlog_text.specs.declared.lines.RowOperation.{RowOperation}
 use Rattle.binlog_text.specs.Lines.{Content, OfMark, OfHead, OfTable, OfColumn, OfGtid, OfSources, OfRow, OfValue}
 use Rattle.binlog_entries.specs.Bodies.{kind_of, takes}
 use Rattle.binlog_entries.specs.Machine.{Standing, or_refused, tell, change_of, gtid_line, sources_line, take_content, step, runs, start}
 use Rattle.binlog_entries.specs.Meaning.{Context, nowhere, with_sources, executed_before, varied_by, varied_in, file_by, come_with, come_with_gtid, come_by, named_has_come, set_has_come, NoGap, open_by}
 use Rattle.binlog_entries.specs.Tables.{Table}
-use Rattle.binlog_entries.specs.Telling.{row_events, columns_events, place_events, column_events, gtid_events, sources_events, events_of}
+use Rattle.binlog_entries.specs.Telling.{row_events, columns_events, column_events, events_of}
 use Rattle.binlog_entries.specs.Unread.{refusal_at}
 use Rattle.binlog_entries.specs.Varied.{varied_behind}
 use Rattle.binlog_entries.specs.declared.fault.EntryRefusal.TheVariants as refusals
-use Rattle.binlog_entries.proofs.TransactionLaws.{bind_ok, same_ok, test_ok, told_ok, events_taken, same_log, context_of, Sound, Tells}
+use Rattle.binlog_entries.proofs.TransactionLaws.{bind_ok, same_ok, test_ok, told_ok, events_taken, same_log, context_of, Sound}
 use Rattle.binlog_entries.proofs.Meanings.{refused_is, step_law, sound_start}
 
 abbrev Kept : Type 0
@@ -72,9 +70,9 @@ column_keeps : (log t : LogState) (o : Option Table) (text : List ℕ) → trans
 column_keeps log t None text h = none_told log t h
 column_keeps log t (Some m) text h = by (compares_bytes text) h
   where
-    by : (b : Bool) → transactions.runs log (cond b [] (logged.Varies m.name (length m.columns) ∷ [])) ≡ Ok t → kept_in t ≡ (cond b log.varied (behind log (logged.Varies m.name (length m.columns))).varied, (log.previous, log.is_fresh), (log.file, log.come), log.is_open)
+    by : (b : Bool) → transactions.runs log (cond b [] (logged.Varies m.name (length m.columns) (collation_in text) ∷ [])) ≡ Ok t → kept_in t ≡ (cond b log.varied (behind log (logged.Varies m.name (length m.columns) (collation_in text))).varied, (log.previous, log.is_fresh), (log.file, log.come), log.is_open)
     by true h = none_told log t h
-    by false h = (one_told log t (logged.Varies m.name (length m.columns)) h).1
+    by false h = (one_told log t (logged.Varies m.name (length m.columns) (collation_in text)) h).1
 
 -- ---- lines
 

@@ -1,10 +1,9 @@
 -- Each line tells its events, and adds what it means to what the events and the row that is open denote.
-use Rattle.std.proofs.Common.{◌≡◌, ℕ, Bool, true, false, cond, not, List, [], ◌∷◌, ◌++◌, map, length, Option, Some, None, Result, Ok, Err, refl, sym, ap, ◌∙◌, subst, append_assoc, append-nil}
+use Rattle.std.proofs.Common.{◌≡◌, ℕ, Bool, true, false, cond, List, [], ◌∷◌, ◌++◌, map, length, Option, Some, None, Ok, refl, sym, ap, ◌∙◌, subst, append_assoc, append-nil}
 use Rattle.std.specs.List.{flat_map}
 use Rattle.std.proofs.lemmas.Grind.{flat_map-append}
 use Rattle.lemmas.proofs.Tests.{never}
 use Rattle.gtid_text.specs.Canonical.{gtid_text}
-use Rattle.gtid_text.specs.declared.Gtid.{Gtid}
 use Rattle.gtid_set.specs.Sets.{Gtids}
 use Rattle.journal_words.specs.Gtids.{gtid_of_word, set_of_word}
 use Rattle.journal.specs.declared.Entry.{Entry}
@@ -16,12 +15,10 @@ use Rattle.log_transactions.specs.Machine.{LogState, is_idle, is_begun, unless, 
 use Rattle.log_transactions.specs.Machine as transactions
 use Rattle.log_transactions.specs.Meaning.{EventMeaning, Of, Changed, Committed, AreOfLog}
 use Rattle.log_transactions.specs.Meaning as denoted
-use Rattle.log_transactions.specs.declared.fault.EventRefusal.{EventRefusal}
 use Rattle.log_transactions.specs.declared.fault.EventRefusal.TheVariants as logs
-use Rattle.log_transactions.specs.declared.stages.TransactionStage.{TransactionStage}
 use Rattle.log_transactions.proofs.EventLaws.{events_told}
 use Rattle.binlog_text.specs.declared.types.ColumnType.{ColumnType}
-use Rattle.binlog_text.specs.Types.{compares_bytes, parse_type}
+use Rattle.binlog_text.specs.Types.{compares_bytes, collation_in, parse_type}
 use Rattle.binlog_text.specs.declared.lines.LogEvent.{LogEvent}
 use Rattle.binlog_text.specs.declared.lines.LogEvent.TheVariants as events
 use Rattle.binlog_text.specs.declared.lines.Mark.{Mark}
@@ -102,7 +99,7 @@ column_run : (log : LogState) (o : Option Table) (text : List ℕ) → transacti
 column_run log None text = refl
 column_run log (Some t) text = by (compares_bytes text)
   where
-    by : (b : Bool) → transactions.runs log (cond b [] (logged.Varies t.name (length t.columns) ∷ [])) ≡ Ok (cond b log (behind log (logged.Varies t.name (length t.columns))))
+    by : (b : Bool) → transactions.runs log (cond b [] (logged.Varies t.name (length t.columns) (collation_in text) ∷ [])) ≡ Ok (cond b log (behind log (logged.Varies t.name (length t.columns) (collation_in text))))
     by true = refl
     by false = refl
 
@@ -110,7 +107,7 @@ column_nothing : (o : Option Table) (text : List ℕ) → [] ≡ events_spelled 
 column_nothing None text = refl
 column_nothing (Some t) text = by (compares_bytes text)
   where
-    by : (b : Bool) → [] ≡ events_spelled (cond b [] (logged.Varies t.name (length t.columns) ∷ []))
+    by : (b : Bool) → [] ≡ events_spelled (cond b [] (logged.Varies t.name (length t.columns) (collation_in text) ∷ []))
     by true = refl
     by false = refl
 

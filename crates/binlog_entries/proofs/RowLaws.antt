@@ -1,12 +1,11 @@
 -- Each line of a row adds what it means to what the row denotes.
-use Rattle.std.proofs.Common.{◌≡◌, ℕ, ◌+◌, ◌-◌, Bool, true, false, cond, eqb, not, List, [], ◌∷◌, ◌++◌, length, Option, Some, None, Result, Ok, Err, refl, sym, ap, ◌∙◌, subst, append_assoc, append-nil, arith}
+use Rattle.std.proofs.Common.{◌≡◌, ℕ, ◌+◌, ◌-◌, Bool, true, false, cond, eqb, not, List, [], ◌∷◌, ◌++◌, length, Option, Some, None, Result, Ok, Err, refl, sym, ap, ◌∙◌, subst, append_assoc, arith}
 use Rattle.std.specs.Prelude.{◌&&◌, is_some}
 use Rattle.std.proofs.lemmas.Bool.{eqb-true}
 use Rattle.std.proofs.lemmas.Option.{same_Some}
 use Rattle.row_images.specs.declared.value.Value.{Value}
 use Rattle.rows.specs.Names.{is_short_name}
 use Rattle.log_transactions.specs.Machine.{has_table}
-use Rattle.log_transactions.specs.Machine as transactions
 use Rattle.log_transactions.specs.Tables.{table_name}
 use Rattle.binlog_text.specs.declared.types.ColumnType.{ColumnType}
 use Rattle.binlog_text.specs.Values.{value_at}
@@ -24,7 +23,7 @@ use Rattle.binlog_entries.specs.declared.draft.RowPart.{RowPart}
 use Rattle.binlog_entries.specs.declared.draft.RowPart.TheVariants as parts
 use Rattle.binlog_entries.specs.declared.fault.EntryRefusal.{EntryRefusal}
 use Rattle.binlog_entries.specs.declared.fault.EntryRefusal.TheVariants as refusals
-use Rattle.binlog_entries.proofs.TransactionLaws.{bind_ok, same_ok, if_ok, spelled_row, row_of, events_spelled, context_of, is_rows, RowFits, Sound, Tells, bare, finished, finish_law}
+use Rattle.binlog_entries.proofs.TransactionLaws.{bind_ok, same_ok, if_ok, spelled_row, row_of, context_of, is_rows, RowFits, Sound, Tells, bare, finish_law}
 
 -- ---- rows
 

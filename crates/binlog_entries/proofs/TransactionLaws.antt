@@ -1,7 +1,6 @@
 -- What a row that is open denotes, and the lines of events and transactions.
-use Rattle.std.proofs.lemmas.Bool.{and_parts}
 use Rattle.std.proofs.lemmas.Grind.{flat_map-append}
-use Rattle.std.proofs.Common.{◌≡◌, ℕ, Bool, true, false, cond, not, ◌&&◌, List, [], ◌∷◌, ◌++◌, length, Option, Some, None, Result, Ok, Err, refl, sym, ap, ◌∙◌, subst, append_assoc, append-nil}
+use Rattle.std.proofs.Common.{◌≡◌, ℕ, Bool, true, false, cond, List, [], ◌∷◌, ◌++◌, length, Option, Some, None, Result, Ok, Err, refl, sym, ap, ◌∙◌, subst, append_assoc, append-nil}
 use Rattle.std.specs.List.{flat_map}
 use Rattle.lemmas.proofs.Tests.{never}
 use Rattle.gtid_text.specs.Canonical.{gtid_text}
@@ -12,7 +11,6 @@ use Rattle.log_transactions.specs.Events as logged
 use Rattle.log_transactions.specs.Machine.{LogState, is_idle, behind, refusal, taken, and_then}
 use Rattle.log_transactions.specs.Machine as transactions
 use Rattle.log_transactions.specs.declared.fault.EventRefusal.{EventRefusal}
-use Rattle.binlog_text.specs.declared.lines.Mark.{Mark}
 use Rattle.binlog_text.specs.declared.lines.Mark.TheVariants as marks
 use Rattle.binlog_text.specs.declared.lines.RowOperation.{RowOperation}
 use Rattle.binlog_text.specs.declared.lines.RowOperation.TheVariants as operations

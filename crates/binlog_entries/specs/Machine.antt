@@ -17,7 +17,7 @@ use Rattle.log_transactions.specs.Machine as transactions
 use Rattle.log_transactions.specs.Tables.{table_name}
 use Rattle.log_transactions.specs.declared.fault.EventRefusal.{EventRefusal}
 use Rattle.binlog_text.specs.declared.types.ColumnType.{ColumnType}
-use Rattle.binlog_text.specs.Types.{compares_bytes, parse_type}
+use Rattle.binlog_text.specs.Types.{compares_bytes, collation_in, parse_type}
 use Rattle.binlog_text.specs.Values.{value_at}
 use Rattle.binlog_text.specs.declared.lines.LogEvent.{LogEvent}
 use Rattle.binlog_text.specs.declared.lines.LogEvent.TheVariants as events
@@ -210,7 +210,7 @@ add_column s (Some t) is_first type =
 -- what the next column of the table that is mapped, whose type this text describes, tells of how it is compared
 abbrev pub noted : LogState → Option Table → List ℕ → LogState
 noted log None text = log
-noted log (Some t) text = if compares_bytes text then log else transactions.behind log (logged.Varies t.name (length t.columns))
+noted log (Some t) text = if compares_bytes text then log else transactions.behind log (logged.Varies t.name (length t.columns) (collation_in text))
 
 abbrev pub note_varied : Standing → List ℕ → Standing
 note_varied s text = record s { log = noted s.log s.mapping text }

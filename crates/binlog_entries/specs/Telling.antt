@@ -1,11 +1,11 @@
 -- What lines tell of the log: its events.
-use Rattle.std.specs.Prelude.{ℕ, Bool, List, [], ◌∷◌, ◌++◌, length, Option, Some, None, if◌then◌else◌}
+use Rattle.std.specs.Prelude.{ℕ, List, [], ◌∷◌, ◌++◌, length, Option, Some, None, if◌then◌else◌}
 use Rattle.gtid_text.specs.declared.Gtid.{Gtid}
 use Rattle.gtid_set.specs.Sets.{Gtids}
 use Rattle.journal_words.specs.Gtids.{gtid_of_word, set_of_word}
 use Rattle.log_transactions.specs.Events.{Event}
 use Rattle.log_transactions.specs.Events as logged
-use Rattle.binlog_text.specs.Types.{compares_bytes}
+use Rattle.binlog_text.specs.Types.{compares_bytes, collation_in}
 use Rattle.binlog_text.specs.declared.lines.LogEvent.{LogEvent}
 use Rattle.binlog_text.specs.declared.lines.LogEvent.TheVariants as events
 use Rattle.binlog_text.specs.declared.lines.Mark.{Mark}
@@ -47,7 +47,7 @@ head_events _ = []
 -- the next column of the table that is mapped, whose type this text describes
 abbrev pub column_events : Option Table → List ℕ → List Event
 column_events None text = []
-column_events (Some t) text = if compares_bytes text then [] else logged.Varies t.name (length t.columns) ∷ []
+column_events (Some t) text = if compares_bytes text then [] else logged.Varies t.name (length t.columns) (collation_in text) ∷ []
 
 abbrev pub gtid_events : Option Gtid → List Event
 gtid_events None = []

@@ -8,8 +8,8 @@ use crate::parts::{after_due, before_due, change_of, is_whole, parse_value, type
 use crate::tables::{Mapped, Tables};
 use crate::unread::{refusal_at, refusal_of};
 use binlog_text::{
-    Column, ColumnType, LogEvent, LogLine, Mark, RowOperation, compares_bytes, parse_type,
-    read_line,
+    Column, ColumnType, LogEvent, LogLine, Mark, RowOperation, collation_in, compares_bytes,
+    parse_type, read_line,
 };
 use gtid_set::GtidSet;
 use journal_words::{gtid_word, set_word};
@@ -282,8 +282,8 @@ impl LogDraft {
         }
     }
 
-    /// Tells the next column of the mapped table, unless the server compares its values by their bytes.
-    fn note(&mut self, text: &[u8]) -> Result<(), AllocError>
+    /// Tells the next column of the mapped table, with its collation, unless the server compares its values by their bytes.
+    fn note(&mut self, alloc: Global, text: &[u8]) -> Result<(), AllocError>
         ensures { OnOk result (standing self.new ≡ note_varied (standing self.old) text.now) }
     {
         let Some(table) = &self.mapping else {
@@ -293,17 +293,17 @@ impl LogDraft {
             return Ok(());
         }
         let name = table.name().clone()?;
-        self.log.vary(name, table.len())
+        self.log.vary(alloc, name, table.len(), collation_in(text))
     }
 
     #[tactic(auto, unfolding(crate::specs::Machine::column_line))]
-    fn column_line(&mut self, column: &Column<'_>) -> Result<(), EntryFault>
+    fn column_line(&mut self, alloc: Global, column: &Column<'_>) -> Result<(), EntryFault>
         ensures { TakesOrMemory result (column_line (standing self.old) (column_content column.now)) (standing self.new) }
     {
         let Some(named) = parse_type(column.column_type) else {
             return Err(EntryFault::Refused(EntryRefusal::Type));
         };
-        self.note(column.column_type)?;
+        self.note(alloc, column.column_type)?;
         self.add_column(column.is_first, named)
     }
 
@@ -332,7 +332,7 @@ impl LogDraft {
             LogLine::Mark(mark) => self.mark_line(alloc, *mark),
             LogLine::Head(event) => self.head_line(*event),
             LogLine::TableMap(database, table) => self.table_line(alloc, database, table),
-            LogLine::Column(column) => self.column_line(column),
+            LogLine::Column(column) => self.column_line(alloc, column),
             LogLine::Gtid(gtid) => self.gtid_line(alloc, gtid),
             LogLine::Sources(sources, _) => self.sources_line(alloc, sources),
             LogLine::Row(operation, database, table) => {

@@ -10,6 +10,7 @@ use Rattle.gtid_set.specs.Sets.{Gtids}
 use Rattle.journal.proofs.EntryLemmas.{no_numbers}
 use Rattle.txn_journal.proofs.GtidLaws.{set_found, written_numbers}
 use Rattle.binlog_files.specs.Told.{set_said, varies}
+use Rattle.binlog_rows.specs.declared.comparisons.VariedPlace.{VariedPlace}
 use Rattle.binlog_files.specs.declared.fault.FileRefusal.{FileRefusal}
 use Rattle.gtid_set.specs.declared.fault.SetFault.{SetFault}
 use Rattle.log_transactions.specs.Events.{Event, Row, Varies}
@@ -83,9 +84,10 @@ err_told (faults.Refused refusal) old first new e es all same h = sym same ∙ t
 -- ---- varied columns
 
 -- what is left of columns from a place on begins with the column there
-pub left_varied : (log : LogState) (table columns : List ℕ) (i d : ℕ) → i < length columns
-    → told_to log (Ok (varies table (drop i columns))) ≡ told_to log (Ok (Varies table (get_or columns i d) ∷ varies table (drop (i + 1) columns)))
-left_varied log table columns i d below = at_drop_more (λ (cs : List ℕ). told_to log (Ok (varies table cs))) columns i d below
+pub left_varied : (log : LogState) (table : List ℕ) (columns : List VariedPlace) (i : ℕ) (d : VariedPlace) → i < length columns
+    → told_to log (Ok (varies table (drop i columns)))
+    ≡ told_to log (Ok (Varies table (get_or columns i d).place (get_or columns i d).collation ∷ varies table (drop (i + 1) columns)))
+left_varied log table columns i d below = at_drop_more (λ (cs : List VariedPlace). told_to log (Ok (varies table cs))) columns i d below
 
 -- what a call told behind an event that was taken
 pub told_behind : (r : Result (Unit {0}) FileFault) (old mid new : LogState) (e : Event) (es : List Event) → refusal old e ≡ None → mid ≡ behind old e

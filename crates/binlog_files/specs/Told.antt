@@ -9,6 +9,7 @@ use Rattle.binlog_frames.specs.Spelling.{Framed}
 use Rattle.binlog_events.specs.Bodies.{query_text, Mapped, mapped, rows_id}
 use Rattle.binlog_events.specs.Previous.{previous_text}
 use Rattle.binlog_rows.specs.Collations.{varied_columns}
+use Rattle.binlog_rows.specs.declared.comparisons.VariedPlace.{VariedPlace}
 use Rattle.binlog_rows.specs.Columns.{columns_of}
 use Rattle.binlog_rows.specs.declared.columns.MappedColumn.{MappedColumn}
 use Rattle.binlog_files.specs.Statements.{statement_told}
@@ -51,21 +52,21 @@ gtid_told (Some gtid) = Ok (Names gtid ∷ [])
 -- ---- tables
 
 -- these columns of a table are compared otherwise than by their bytes
-abbrev pub varies : List ℕ → List ℕ → List Event
+abbrev pub varies : List ℕ → List VariedPlace → List Event
 varies table [] = []
-varies table (column ∷ columns) = Varies table column ∷ varies table columns
+varies table (column ∷ columns) = Varies table column.place column.collation ∷ varies table columns
 
 -- a table is mapped that has so many columns, of which these are compared otherwise than by their bytes
-abbrev pub table_told : Mapped → ℕ → List ℕ → Result (List Event) FileRefusal
+abbrev pub table_told : Mapped → ℕ → List VariedPlace → Result (List Event) FileRefusal
 table_told m columns varied = Ok (Maps m.database m.table ∷ Columns columns ∷ varies m.table varied)
 
 -- the same, where the map says the columns, their signs and their collations
-abbrev pub columns_told : Mapped → Option (List MappedColumn) → Option (List ℕ) → Result (List Event) FileRefusal
+abbrev pub columns_told : Mapped → Option (List MappedColumn) → Option (List VariedPlace) → Result (List Event) FileRefusal
 columns_told m None varied = Err refusals.Type
 columns_told m (Some columns) None = Err refusals.Metadata
 columns_told m (Some columns) (Some varied) = table_told m (length columns) varied
 
-abbrev pub map_told : Option Mapped → Option (List MappedColumn) → Option (List ℕ) → Result (List Event) FileRefusal
+abbrev pub map_told : Option Mapped → Option (List MappedColumn) → Option (List VariedPlace) → Result (List Event) FileRefusal
 map_told None columns varied = Err refusals.Format
 map_told (Some m) columns varied = columns_told m columns varied
 

@@ -13,26 +13,36 @@ use crate::bodies::settled;
 use crate::fault::{FileFault, FileRefusal};
 use crate::tables::{FileTable, FileTables};
 use binlog_events::{NamedTable, mapped};
-use binlog_rows::{MappedColumn, read_columns, varied_columns};
+use binlog_rows::{MappedColumn, VariedPlace, read_columns, varied_columns};
 use log_transactions::{EventRefusal, LogTransactions};
 use rows::Name;
 use std::alloc::{AllocError, Global};
 
 /// Tells a log a column of a table of this name that is compared otherwise than by its bytes.
-fn tell_column(log: &mut LogTransactions, table: &Name, column: usize) -> Result<(), FileFault>
-    ensures { Tells result (state log.old) (Ok (Varies table.now column ∷ [])) (state log.new) }
+fn tell_column(
+    alloc: Global,
+    log: &mut LogTransactions,
+    table: &Name,
+    column: &VariedPlace,
+) -> Result<(), FileFault>
+    ensures { Tells result (state log.old) (Ok (Varies table.now column.now.place column.now.collation ∷ [])) (state log.new) }
 {
     let name = table.clone()?;
-    log.vary(name, column)?;
+    log.vary(alloc, name, column.place, column.collation)?;
     Ok(())
 }
 
 /// Tells a log the columns of a table of this name that are compared otherwise than by their bytes.
-fn tell_varied(log: &mut LogTransactions, table: &Name, varied: &[usize]) -> Result<(), FileFault>
+fn tell_varied(
+    alloc: Global,
+    log: &mut LogTransactions,
+    table: &Name,
+    varied: &[VariedPlace],
+) -> Result<(), FileFault>
     ensures { Tells result (state log.old) (Ok (varies table.now varied.now)) (state log.new) }
 {
     for column in varied {
-        match tell_column(log, table, *column) {
+        match tell_column(alloc, log, table, column) {
             Ok(()) => {}
             Err(fault) => return Err(fault),
         }
@@ -42,9 +52,10 @@ fn tell_varied(log: &mut LogTransactions, table: &Name, varied: &[usize]) -> Res
 
 /// Tells a log the number of columns of the table that is mapped, and those that are compared otherwise than by their bytes.
 fn tell_columns(
+    alloc: Global,
     log: &mut LogTransactions,
     columns: usize,
-    varied: &[usize],
+    varied: &[VariedPlace],
 ) -> Result<(), FileFault>
     ensures { (table : List ℕ) → (state log.old).mapping ≡ Some table
         → Tells result (state log.old) (Ok (Columns columns ∷ varies table varied.now)) (state log.new) }
@@ -54,7 +65,7 @@ fn tell_columns(
     };
     let name = name.clone()?;
     match settled(log.take_columns(columns)) {
-        Ok(()) => tell_varied(log, &name, varied),
+        Ok(()) => tell_varied(alloc, log, &name, varied),
         Err(fault) => Err(fault),
     }
 }
@@ -65,12 +76,12 @@ fn tell_table(
     log: &mut LogTransactions,
     found: &NamedTable<'_>,
     columns: usize,
-    varied: &[usize],
+    varied: &[VariedPlace],
 ) -> Result<(), FileFault>
     ensures { Tells result (state log.old) (table_told (mapped_table found.now) columns varied.now) (state log.new) }
 {
     match settled(log.map_table(alloc, found.database, found.table)) {
-        Ok(()) => tell_columns(log, columns, varied),
+        Ok(()) => tell_columns(alloc, log, columns, varied),
         Err(fault) => Err(fault),
     }
 }

@@ -6,7 +6,7 @@
 //! `read_columns`, `count_rows` and `read_rows` give None. `value_of` (`specs/Values`) is the value that bytes are in a column, and
 //! `rows_read` (`specs/Reading`) the rows of `rows_of` with their values. Of a JSON that is the text of the document (`json_text`,
 //! `specs/Json`), since one document has several binary forms. `varied_columns` (`specs/Collations`) is which columns a server
-//! compares otherwise than by their bytes; it is None too where a map doesn't say the signs of its numbers or the collations of its texts.
+//! compares otherwise than by their bytes, and by which collation; it is None too where a map doesn't say the signs of its numbers or the collations of its texts.
 //!
 //! Where a value lies is said once, by `value_by` (`specs/Images`). Counting takes time in proportion to the bytes: the columns that an
 //! event's images have are looked for once for the event, and each row is passed over by these.
@@ -17,8 +17,8 @@
 #![tactic(auto)]
 
 mod bodies;
-mod collations;
 mod columns;
+mod comparisons;
 mod decimals;
 mod digits;
 mod doubles;
@@ -34,7 +34,7 @@ mod times;
 mod values;
 
 pub use bodies::count_rows;
-pub use collations::varied_columns;
 pub use columns::{MappedColumn, Signedness, read_columns};
+pub use comparisons::{VariedPlace, varied_columns};
 pub use reading::{LoggedRow, LoggedRows, read_rows};
 pub use values::value_of;

@@ -3,3 +3,4 @@ pub mod TokenLaws
 pub mod ValueLaws
 pub mod LinesFound
 pub mod LinesAgain
+pub mod CollationLaws

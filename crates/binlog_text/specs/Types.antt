@@ -1,8 +1,12 @@
 -- The types of columns, as mysqlbinlog prints them after `--print-table-metadata`.
-use Rattle.std.specs.Prelude.{ℕ, ◌&&◌, ◌||◌, Bool, true, List, Option, Some, None, codes, nat_eq, nat_le, if◌then◌else◌}
+use Rattle.std.specs.Prelude.{ℕ, ◌&&◌, ◌||◌, Bool, true, List, [], ◌∷◌, Option, Some, None, codes, nat_eq, nat_le, if◌then◌else◌}
 use Rattle.std.specs.List.{ends_with}
+use Rattle.std.specs.Option.{option_or}
 use Rattle.std.specs.Str.{bytes_eq}
 use Rattle.gtid_text.specs.Scan.{run, skip_while}
+use Rattle.collations.specs.Finding.{collation_named}
+use Rattle.collations.specs.declared.collation.Collation.{Collation}
+use Rattle.binlog_text.specs.Tokens.{◌>>=◌, after_prefix}
 use Rattle.binlog_text.specs.Lines.{begins}
 use Rattle.binlog_text.specs.declared.types.IntegerType.{IntegerType}
 use Rattle.binlog_text.specs.declared.types.IntegerType.TheVariants as integers
@@ -70,3 +74,12 @@ compares_bytes text =
     if is_varied_text (run is_upper text) then ends_with nat_eq text (codes " COLLATE utf8mb4_0900_bin")
     else if bytes_eq (run is_upper text) (codes "CHAR") then ends_with nat_eq text (codes "_bin")
     else true
+
+-- what is behind COLLATE, the name of a collation
+abbrev pub collation_name : List ℕ → Option (List ℕ)
+collation_name [] = None
+collation_name (b ∷ bs) = option_or (after_prefix (codes " COLLATE ") (b ∷ bs)) (collation_name bs)
+
+-- the collation that the text of a type names, where it is one whose weights are known
+abbrev pub collation_in : List ℕ → Option Collation
+collation_in text = collation_name text >>= collation_named

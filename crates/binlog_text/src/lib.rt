@@ -12,7 +12,8 @@
 //! Not read: FLOAT, DOUBLE, JSON, GEOMETRY and VECTOR, whose values are not printed whole; numbers from 2^63; names with a backquote or
 //! line feed.
 //!
-//! `compares_bytes` decides whether the server takes two values of a column for equal if and only if their bytes are.
+//! `compares_bytes` decides whether the server takes two values of a column for equal if and only if their bytes are. `collation_in` is the
+//! collation that the text of a column's type names, where it is one of crate `collations`.
 //!
 //! Not proved: which lines may follow which (that is `binlog_entries`: a statement's text is printed raw and may hold any line), and that
 //! these are the lines of a server. That is tested by lines of MySQL 9.7.
@@ -30,6 +31,6 @@ pub use lines::{Column, LogEvent, LogLine, Mark, RowOperation};
 pub use quoted::unquote;
 pub use reading::read_line;
 pub use tokens::cut_at;
-pub use type_text::{compares_bytes, parse_type};
+pub use type_text::{collation_in, compares_bytes, parse_type};
 pub use types::{ColumnType, IntegerType};
 pub use values::read_value;

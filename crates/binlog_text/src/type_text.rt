@@ -1,10 +1,12 @@
 //! Types of columns out of text.
-ghost use Rattle.std.specs.Prelude.{◌≡◌};
+ghost use Rattle.std.specs.Prelude.{◌≡◌, option_map};
 ghost use Rattle.gtid_text.specs.Scan.{run, skip_while};
-ghost use Rattle.binlog_text.specs.Types.{is_upper, integer_named, is_varied_text, is_binary, is_time, is_quoted, other_named, parse_type, compares_bytes};
+ghost use Rattle.binlog_text.specs.Types.{is_upper, integer_named, is_varied_text, is_binary, is_time, is_quoted, other_named, parse_type, compares_bytes, collation_name, collation_in};
 
 use crate::reading::begins;
+use crate::tokens::after_prefix;
 use crate::types::{ColumnType, IntegerType};
+use collations::{Collation, collation_named};
 
 /// The first word, of capitals, and what follows it.
 fn word(text: &[u8]) -> (&[u8], &[u8])
@@ -115,5 +117,27 @@ pub fn compares_bytes(text: &[u8]) -> bool
         text.ends_with(b"_bin")
     } else {
         true
+    }
+}
+
+/// What is behind COLLATE.
+fn collation_name(text: &[u8]) -> Option<&[u8]>
+    ensures { option_map (λ t. t.now) result ≡ collation_name text.now }
+{
+    for i in 0..text.len() {
+        if let Some(name) = after_prefix(&text[i..], b" COLLATE ") {
+            return Some(name);
+        }
+    }
+    None
+}
+
+/// The collation that the text of a type names, where it is one whose weights are known.
+pub fn collation_in(text: &[u8]) -> Option<Collation>
+    ensures { result ≡ collation_in text.now }
+{
+    match collation_name(text) {
+        Some(name) => collation_named(name),
+        None => None,
     }
 }

@@ -2,12 +2,11 @@
 use Rattle.std.proofs.Common.{◌≡◌, Bool, ℕ, List, refl, inl, inr, subst, sym}
 use Rattle.std.specs.Prelude.{Result, Ok, Err, IfOk, OnOk, None}
 use Rattle.txn_journal.specs.BundleStates.{BundleValue}
-use Rattle.binlog_bundle.specs.Bundles.{ImportsBundle}
-use Rattle.binlog_bundle.specs.Refused.{IsNoBundle}
+use Rattle.binlog_bundle.specs.Weighed.{ImportsLogs, IsNoImportOfLogs}
 use Rattle.binlog_bundle.specs.declared.fault.BundleFault.{BundleFault}
 use Rattle.binlog_bundle.specs.declared.grants.Grants.{Grants}
 use Rattle.binlog_bundle.specs.Files.{files as log_files}
-use Rattle.binlog_bundle.specs.Logs.{terms_of, texts}
+use Rattle.binlog_bundle.specs.Logs.{texts}
 use Rattle.binlog_bundle.specs.declared.files.ChannelFiles.{ChannelFiles}
 use Rattle.commands.specs.Printed.{Printed, Holds}
 use Rattle.commands.specs.declared.import_fault.Refused.{Refused as Refusal}
@@ -41,20 +40,20 @@ refused_by none reports is_explained text refusal (Ok held) is n holds e line = 
 }
 refused_by none reports is_explained text refusal (Err f) is n holds e line = tt
 
-pub imported_so : (grants : Grants) (is_explained : Bool) (text : List ℕ) (b : BundleValue) (notes : List ℕ) (r : Result Report RunFault) → ImportsBundle (terms_of grants texts) text b notes
+pub imported_so : (grants : Grants) (is_explained : Bool) (text : List ℕ) (b : BundleValue) (notes : List ℕ) (r : Result Report RunFault) → ImportsLogs grants texts text b notes
     → IfOk r (λ held. Holds held.answer (text_answer Three b)) → IfOk r (λ held. held.notes.items ≡ notes) → IfOk r (HoldsReport (Imports grants is_explained) text)
-imported_so grants is_explained text b notes r = imported_by (ImportsBundle (terms_of grants texts) text) (Imports grants is_explained) text b notes r (λ p n it. inl it)
+imported_so grants is_explained text b notes r = imported_by (ImportsLogs grants texts text) (Imports grants is_explained) text b notes r (λ p n it. inl it)
 
-pub refused_so : (grants : Grants) (is_explained : Bool) (text : List ℕ) (fault : BundleFault) (refusal : Refusal) (r : Result Report RunFault) → IsNoBundle (terms_of grants texts) fault text
+pub refused_so : (grants : Grants) (is_explained : Bool) (text : List ℕ) (fault : BundleFault) (refusal : Refusal) (r : Result Report RunFault) → IsNoImportOfLogs grants texts fault text
     → refusal ≡ bundle_refused fault
     → IfOk r (λ held. Holds held.answer silent_refusal) → IfOk r (λ held. held.notes.items ≡ refusal_notes is_explained text refusal) → OnOk r (HasLine refusal)
     → IfOk r (HoldsReport (Imports grants is_explained) text)
 refused_so grants is_explained text fault refusal r none is =
-    refused_by (IsOfFault (λ f. IsNoBundle (terms_of grants texts) f text)) (Imports grants is_explained) is_explained text refusal r (λ p n it. inr it) (fault, none, is)
+    refused_by (IsOfFault (λ f. IsNoImportOfLogs grants texts f text)) (Imports grants is_explained) is_explained text refusal r (λ p n it. inr it) (fault, none, is)
 
 -- ---- with files
 
-pub filed_so : (grants : Grants) (is_explained : Bool) (logs : List ChannelFiles) (text : List ℕ) (b : BundleValue) (notes : List ℕ) (r : Result Report RunFault) → ImportsBundle (terms_of grants (log_files logs)) text b notes
+pub filed_so : (grants : Grants) (is_explained : Bool) (logs : List ChannelFiles) (text : List ℕ) (b : BundleValue) (notes : List ℕ) (r : Result Report RunFault) → ImportsLogs grants (log_files logs) text b notes
     → unnamed logs b.channels ≡ None
     → IfOk r (λ held. Holds held.answer (text_answer Three b)) → IfOk r (λ held. held.notes.items ≡ notes) → IfOk r (HoldsReport (ImportsWithFiles logs grants is_explained) text)
 filed_so grants is_explained logs text b notes r i u = imported_by (ImportsAll grants logs text) (ImportsWithFiles logs grants is_explained) text b notes r (λ p n it. inl it) (i, u)

@@ -25,10 +25,9 @@ use Rattle.binlog_entries.specs.declared.import.ImportFault.{ImportFault}
 use Rattle.binlog_entries.specs.declared.import.ImportFault.TheVariants as imports
 use Rattle.binlog_entries.specs.declared.limits.Limit.{Limit}
 use Rattle.binlog_entries.specs.declared.limits.Limit.TheVariants as limits
-use Rattle.binlog_bundle.specs.Bundles.{ImportsBundle}
-use Rattle.binlog_bundle.specs.Logs.{terms_of, texts}
+use Rattle.binlog_bundle.specs.Logs.{texts}
 use Rattle.binlog_bundle.specs.Files.{files as log_files}
-use Rattle.binlog_bundle.specs.Refused.{IsNoBundle}
+use Rattle.binlog_bundle.specs.Weighed.{ImportsLogs, IsNoImportOfLogs}
 use Rattle.binlog_bundle.specs.declared.fault.BundleFault.{BundleFault}
 use Rattle.binlog_bundle.specs.declared.fault.BundleFault.TheVariants as bundles
 use Rattle.binlog_bundle.specs.declared.grants.Grants.{Grants}
@@ -93,6 +92,8 @@ binlog_refused channel file (filed.Refused offset refusal) = Binlog channel file
 abbrev pub logless_refused : ℕ → Logless → Refusal
 logless_refused line logless.Missing = At line cause.NoFiles
 logless_refused line logless.Surplus = At line cause.Text
+logless_refused line (logless.Collation table column) = At line (cause.Collation table column)
+logless_refused line (logless.Weights gtid table column) = At line (cause.Weights gtid table column)
 
 abbrev pub bundle_refused : BundleFault → Refusal
 bundle_refused (bundles.Own fault) = Known (journal_fault fault)
@@ -138,6 +139,8 @@ cause_text cause.Schema place = codes "schema"
 cause_text cause.Unknown place = codes "executed"
 cause_text cause.NoFiles place = codes "files"
 cause_text cause.Text place = codes "text"
+cause_text (cause.Collation table column) place = codes "collation" ++ column_text table column
+cause_text (cause.Weights gtid table column) place = codes "characters " ++ (gtid_text gtid ++ column_text table column)
 
 -- the word of what is wrong with a binary log file
 abbrev pub file_word : FileCause → List ℕ
@@ -218,8 +221,8 @@ IsOfFault none refusal = (fault : BundleFault) × none fault × (refusal ≡ bun
 -- these are the answer of `import` to this text and the notes beside it
 abbrev pub Imports : Grants → Bool → List ℕ → Printed → List ℕ → Type 0
 Imports grants is_explained text printed notes =
-    IsImport (ImportsBundle (terms_of grants texts) text) printed notes
-    ⊎ IsImportRefused (IsOfFault (λ fault. IsNoBundle (terms_of grants texts) fault text)) is_explained text printed notes
+    IsImport (ImportsLogs grants texts text) printed notes
+    ⊎ IsImportRefused (IsOfFault (λ fault. IsNoImportOfLogs grants texts fault text)) is_explained text printed notes
 
 -- ---- with binary log files
 
@@ -233,17 +236,17 @@ unnamed (f ∷ fs) channels = if has_name f.name.items channels then unnamed fs 
 
 -- a bundle is imported whose channels have all of these files
 abbrev pub ImportsAll : Grants → List ChannelFiles → List ℕ → BundleValue → List ℕ → Type 0
-ImportsAll grants logs text b notes = ImportsBundle (terms_of grants (log_files logs)) text b notes × (unnamed logs b.channels ≡ None)
+ImportsAll grants logs text b notes = ImportsLogs grants (log_files logs) text b notes × (unnamed logs b.channels ≡ None)
 
 -- a bundle is imported, but these files are of none of its channels
 abbrev pub HasUnnamed : Grants → List ChannelFiles → List ℕ → Refusal → Type 0
 HasUnnamed grants logs text (Files name) =
-    (b : BundleValue) × (notes : List ℕ) × ImportsBundle (terms_of grants (log_files logs)) text b notes × (unnamed logs b.channels ≡ Some name.items)
+    (b : BundleValue) × (notes : List ℕ) × ImportsLogs grants (log_files logs) text b notes × (unnamed logs b.channels ≡ Some name.items)
 HasUnnamed grants logs text _ = ⊥
 
 -- the text is refused with these files, or one of these
 abbrev pub IsFilesRefusal : Grants → List ChannelFiles → List ℕ → Refusal → Type 0
-IsFilesRefusal grants logs text refusal = IsOfFault (λ fault. IsNoBundle (terms_of grants (log_files logs)) fault text) refusal ⊎ HasUnnamed grants logs text refusal
+IsFilesRefusal grants logs text refusal = IsOfFault (λ fault. IsNoImportOfLogs grants (log_files logs) fault text) refusal ⊎ HasUnnamed grants logs text refusal
 
 -- these are the answer of `import` to this text and these files, and the notes beside it
 abbrev pub ImportsWithFiles : List ChannelFiles → Grants → Bool → List ℕ → Printed → List ℕ → Type 0

@@ -33,6 +33,10 @@ pub(crate) enum ImportCause {
     NoFiles,
     /// There is text in the place of the channel's log, and files are read.
     Text,
+    /// The log says that the server compares this column of this table, counted from 0, by another collation than the head names.
+    Collation(Name, u32),
+    /// In the entry of this GTID a value of this column of this table is no text of the column's character set.
+    Weights(Gtid, Name, u32),
 }
 
 /// What is wrong with a binary log file.
@@ -149,6 +153,12 @@ fn logless_refused(line: u64, why: Logless) -> Refused
     match why {
         Logless::Missing => Refused::At(line, ImportCause::NoFiles),
         Logless::Surplus => Refused::At(line, ImportCause::Text),
+        Logless::Collation(table, column) => {
+            Refused::At(line, ImportCause::Collation(table, column))
+        }
+        Logless::Weights(gtid, table, column) => {
+            Refused::At(line, ImportCause::Weights(gtid, table, column))
+        }
     }
 }
 

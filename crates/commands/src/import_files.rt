@@ -2,9 +2,8 @@
 ghost use Rattle.std.specs.Prelude.{◌≡◌, None, option_map, IfOk, IfErr};
 ghost use Rattle.commands.specs.Reports.{HoldsReport, HasReported, HasNotReported};
 ghost use Rattle.commands.specs.Imports.{ImportsWithFiles, has_name, unnamed};
-ghost use Rattle.binlog_bundle.specs.Bundles.{ImportsBundle};
+ghost use Rattle.binlog_bundle.specs.Weighed.{ImportsLogs};
 ghost use Rattle.binlog_bundle.specs.Files.{files as log_files};
-ghost use Rattle.binlog_bundle.specs.Logs.{terms_of};
 
 use crate::edge::{Outcome, RunFault, Sink, Source};
 use crate::import_command::{report_imported, report_refused};
@@ -45,7 +44,7 @@ fn report_filed(
     text: &[u8],
     imported: ImportedBundle,
 ) -> Result<Report, RunFault>
-    requires { ImportsBundle (terms_of grants (log_files logs.now)) text.now imported.bundle imported.notes.items }
+    requires { ImportsLogs grants (log_files logs.now) text.now imported.bundle imported.notes.items }
     ensures ok { IfOk result (HoldsReport (ImportsWithFiles logs.now grants is_explained) text.now) }
     ensures memory { IfErr result (λ f. f ≡ RunFault.Memory) }
 {

@@ -15,6 +15,7 @@ use fault_places::{put, put_number};
 use gtid_report::{Fault, push_set, render_fault};
 use gtid_set::GtidSet;
 use gtid_text::{Gtid, write_gtid};
+use rows::Name;
 use std::alloc::{AllocError, Global};
 
 fn put_bytes(out: &mut Vec<u8>, bytes: &[u8]) -> Result<(), AllocError>
@@ -110,6 +111,21 @@ fn put_too_large(
     put_limit(out, limit)
 }
 
+/// Appends that a value of a column has no weights.
+fn put_unweighed(
+    alloc: Global,
+    out: &mut Vec<u8>,
+    gtid: Gtid,
+    table: &Name,
+    column: u32,
+) -> Result<(), AllocError>
+    ensures { OnOk result (out.new.items ≡ out.old.items ++ (codes "characters " ++ (gtid_text gtid ++ column_text table.now column))) }
+{
+    put(out, "characters ")?;
+    put_gtid(alloc, out, gtid)?;
+    put_column(out, table.as_str().as_bytes(), column as usize)
+}
+
 /// Appends why a line of this text is refused.
 fn put_cause(
     alloc: Global,
@@ -133,6 +149,13 @@ fn put_cause(
         ImportCause::Unknown => put(out, "executed"),
         ImportCause::NoFiles => put(out, "files"),
         ImportCause::Text => put(out, "text"),
+        ImportCause::Collation(table, column) => {
+            put(out, "collation")?;
+            put_column(out, table.as_str().as_bytes(), *column as usize)
+        }
+        ImportCause::Weights(gtid, table, column) => {
+            put_unweighed(alloc, out, *gtid, table, *column)
+        }
     }
 }
 

@@ -37,6 +37,14 @@ fn executed_flag<'a>(alloc: Global) -> Arg<'a> {
     )
 }
 
+fn no_rows_flag<'a>(alloc: Global) -> Arg<'a> {
+    flag(
+        alloc,
+        "no-rows",
+        "the opening rows aren't known, and the head has none; then no verdict says that the changes apply to them",
+    )
+}
+
 fn binlogs_option<'a>(alloc: Global) -> Arg<'a> {
     Arg::new(alloc, "binlogs")
         .long("binlogs")
@@ -58,6 +66,7 @@ pub(crate) fn import_command<'a>(alloc: Global) -> Result<clap::Command<'a>, All
         .arg(bytes_flag(alloc))?
         .arg(foreign_keys_flag(alloc))?
         .arg(executed_flag(alloc))?
+        .arg(no_rows_flag(alloc))?
         .arg(binlogs_option(alloc))?
         .arg(flag(
             alloc,
@@ -72,6 +81,7 @@ pub(crate) fn grants_of(matches: &ArgMatches) -> Grants {
         bytes: matches.get_flag("bytes"),
         without_foreign_keys: matches.get_flag("without-foreign-keys"),
         executed_unknown: matches.get_flag("executed-unknown"),
+        no_rows: matches.get_flag("no-rows"),
     }
 }
 

@@ -3,7 +3,7 @@
 //!     set <function> <a> [<b>]               position --own <uuid> --ask <set> < journal
 //!     audit [--all | --explain | --ordered] < bundle
 //!     apply [--by merge|replica] [--history] [--ordered] [--workers N] < bundle
-//!     import [--bytes] [--without-foreign-keys] [--executed-unknown] [--explain] < bundle of logs
+//!     import [--bytes] [--without-foreign-keys] [--executed-unknown] [--no-rows] [--explain] < bundle of logs
 //!     import --binlogs <channel>=<file>.. [the same] < head of a bundle
 //!     upgrade < bundle                       states < servers          events [<file>] < binary log
 //!     --version

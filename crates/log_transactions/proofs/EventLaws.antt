@@ -162,7 +162,7 @@ runs_before s (e ∷ es) t h =
 -- ---- columns
 
 varied_passed : (s : LogState) (e : Event) (es : List Event) → varied_in (behind s e).varied es ≡ varied_in s.varied (e ∷ es)
-varied_passed s (Varies table column) es = refl
+varied_passed s (Varies table column collation) es = refl
 varied_passed s _ es = refl
 
 runs_vary : (s : LogState) (es : List Event) (t : LogState) → runs s es ≡ Ok t → t.varied ≡ varied_in s.varied es

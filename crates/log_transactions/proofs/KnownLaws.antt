@@ -1,19 +1,23 @@
--- Columns by their tables, in order.
-use Rattle.std.proofs.Common.{◌≡◌, ℕ, Bool, true, false, cond, not, List, [], ◌∷◌, ◌++◌, refl, sym, ap, ◌∙◌, arith}
-use Rattle.std.specs.Prelude.{◌&&◌, ◌||◌, ◌==◌}
-use Rattle.std.specs.BTreeSet.{BTreeSet, contains, Updates, IsUnchanged}
+-- Columns by their tables, in order, with their collations.
+use Rattle.std.proofs.Common.{◌≡◌, ℕ, suc, Bool, true, false, cond, List, [], ◌∷◌, ◌++◌, length, Option, Some, refl, sym, ap, ◌∙◌, arith}
+use Rattle.std.specs.Prelude.{◌&&◌, ◌||◌, ◌==◌, not}
+use Rattle.std.specs.BTreeMap.{BTreeMap, get, Updates, IsUnchanged}
 use Rattle.std.specs.Cmp.Lexicographic.{slice_cmp}
-use Rattle.std.specs.List.{list_any}
+use Rattle.std.specs.Map.{lookup}
 use Rattle.std.specs.Ordering.{nat_cmp, is_eq, ordering_then}
+use Rattle.std.specs.Str.{bytes_eq}
+use Rattle.std.specs.Global.{Vec}
 use Rattle.std.specs.declared.cmp.Ordering.{Ordering}
 use Rattle.std.specs.declared.cmp.Ordering.TheVariants.{Less, Equal, Greater}
-use Rattle.std.specs.Str.{bytes_eq}
 use Rattle.std.proofs.lemmas.Map.Text.{is_eq-slice_cmp}
 use Rattle.std.proofs.lemmas.Bool.Decides.{nat_tests}
-use Rattle.lemmas.proofs.Tests.{cond_or}
-use Rattle.log_transactions.specs.Varied.{has_varied, with_varied}
-use Rattle.log_transactions.specs.Known.{Place, place_cmp, AreKnown}
+use Rattle.std.proofs.lemmas.Slice.Eq.{bytes_eq-Decides}
+use Rattle.collations.specs.declared.collation.Collation.{Collation}
+use Rattle.log_transactions.specs.Varied.{is_column, has_varied, collations_of}
+use Rattle.log_transactions.specs.Known.{Place, place_cmp, or_none, AreKnown}
 use Rattle.log_transactions.specs.declared.varied.Varied.{Varied}
+
+-- ---- places
 
 both_equal : (o p : Ordering) → is_eq (ordering_then o p) ≡ (is_eq o && is_eq p)
 both_equal Less p = refl
@@ -29,48 +33,64 @@ same_place table other column at =
     ∙ ap (λ (b : Bool). b && is_eq (nat_cmp column at)) (is_eq-slice_cmp table other)
     ∙ ap (λ (b : Bool). bytes_eq table other && b) (equal_numbers column at)
 
-or_last : (a b c d : Bool) → d ≡ (b || c) → (a || d) ≡ (b || (a || c))
-or_last true true c d e = refl
-or_last true false c d e = refl
-or_last false b c d e = e
+both_true : (a b : Bool) → (a && b) ≡ true → (a ≡ true) × (b ≡ true)
+both_true true b e = (refl, e)
+both_true false b e = absurd cc
 
-varied_push : (table : List ℕ) (column : ℕ) (vs : List Varied) (v : Varied) → has_varied table column (vs ++ v ∷ []) ≡ ((bytes_eq v.table table && (v.column == column)) || has_varied table column vs)
-varied_push table column [] v = refl
-varied_push table column (w ∷ vs) v = or_last (bytes_eq w.table table && (w.column == column)) _ (has_varied table column vs) _ (varied_push table column vs v)
+same_number : (x y : ℕ) → (x == y) ≡ true → x ≡ y
+same_number x y e = grind (arith, nat_tests)
 
-if_not : {X : Type 0} (b : Bool) (x y : X) → b ≡ false → cond b x y ≡ y
-if_not true x y e = absurd cc
-if_not false x y e = refl
+-- ---- a column more
 
-if_so : {X : Type 0} (b : Bool) (x y : X) → b ≡ true → cond b x y ≡ x
-if_so true x y e = refl
-if_so false x y e = absurd cc
+abbrev with_last : Bool → List (Option Collation) → Option Collation → List (Option Collation)
+with_last b cs c = cond b (cs ++ c ∷ []) cs
 
--- a column that is not among them comes last
-pub varied_more : (vs : List Varied) (known : BTreeSet Place) (table : List ℕ) (column : ℕ) → AreKnown vs known → true ≡ not (contains place_cmp known (table, column))
-    → with_varied vs table column ≡ vs ++ record { table = table; column = column } ∷ []
-varied_more vs known table column are added = if_not (has_varied table column vs) _ _ (new _ _ (are table column) added)
-  where
-    new : (b c : Bool) → b ≡ c → true ≡ not b → c ≡ false
-    new true c e h = absurd cc
-    new false c e h = sym e
+first_or : (a b : Bool) (c d : Option Collation) (cs ds : List (Option Collation)) → ds ≡ with_last b cs d
+    → cond a (c ∷ ds) ds ≡ with_last b (cond a (c ∷ cs) cs) d
+first_or true true c d cs ds e = ap (λ (xs : List (Option Collation)). c ∷ xs) e
+first_or true false c d cs ds e = ap (λ (xs : List (Option Collation)). c ∷ xs) e
+first_or false b c d cs ds e = e
 
--- one that is among them is not added
-pub varied_stay : (vs : List Varied) (known : BTreeSet Place) (table : List ℕ) (column : ℕ) → AreKnown vs known → false ≡ not (contains place_cmp known (table, column)) → with_varied vs table column ≡ vs
-varied_stay vs known table column are added = if_so (has_varied table column vs) _ _ (old _ _ (are table column) added)
-  where
-    old : (b c : Bool) → b ≡ c → false ≡ not b → c ≡ true
-    old true c e h = sym e
-    old false c e h = absurd cc
+collations_push : (table : List ℕ) (column : ℕ) (vs : List Varied) (v : Varied) → collations_of table column (vs ++ v ∷ []) ≡ with_last (is_column table column v) (collations_of table column vs) v.collation
+collations_push table column [] v = refl
+collations_push table column (w ∷ vs) v =
+    first_or (is_column table column w) (is_column table column v) w.collation v.collation (collations_of table column vs) (collations_of table column (vs ++ v ∷ []))
+    (collations_push table column vs v)
 
-pub known_more : (vs : List Varied) (old new : BTreeSet Place) (table : List ℕ) (column : ℕ) → AreKnown vs old → Updates place_cmp old new (table, column) true → AreKnown (vs ++ record { table = table; column = column } ∷ []) new
-known_more vs old new table column are updates other at =
-    updates.0 (other, at)
-    ∙ ap (λ (b : Bool). cond b true (contains place_cmp old (other, at))) (same_place table other column at)
-    ∙ cond_or (bytes_eq table other && (column == at)) (contains place_cmp old (other, at))
-    ∙ ap (λ (b : Bool). (bytes_eq table other && (column == at)) || b) (are other at)
-    ∙ sym (varied_push other at vs (record { table = table; column = column }))
+module _ (vs : List Varied) (old new : BTreeMap Place (Vec (Option Collation))) (v : Varied) (more : Vec (Option Collation)) where
+  found : (b : Bool) (table : List ℕ) (column : ℕ) → (b ≡ true → (v.table ≡ table) × (v.column ≡ column)) → more.items ≡ collations_of v.table v.column vs ++ v.collation ∷ []
+      → or_none (get place_cmp old (table, column)) ≡ collations_of table column vs
+      → or_none (cond b (Some more) (get place_cmp old (table, column))) ≡ with_last b (collations_of table column vs) v.collation
+  found true table column same is e =
+      let p = same refl in
+      is ∙ (λ i. collations_of (p.0 i) (p.1 i) vs ++ v.collation ∷ [])
+  found false table column same is e = e
 
--- keys that are as before are the columns of before
-pub known_same : (vs : List Varied) (old new : BTreeSet Place) → IsUnchanged old new → AreKnown vs old → AreKnown vs new
-known_same vs old new same are table column = ap (list_any (λ k. is_eq (place_cmp (table, column) k))) same ∙ are table column
+  -- a column with the collations of before, and its own behind them
+  pub known_more : AreKnown vs old → more.items ≡ collations_of v.table v.column vs ++ v.collation ∷ [] → Updates place_cmp old new (v.table, v.column) (Some more) → AreKnown (vs ++ v ∷ []) new
+  known_more are is updates table column =
+      ap or_none (updates.0 (table, column))
+      ∙ ap (λ (b : Bool). or_none (cond b (Some more) (get place_cmp old (table, column)))) (same_place v.table table v.column column)
+      ∙ found (is_column table column v) table column same is (are table column)
+      ∙ sym (collations_push table column vs v)
+    where
+      same : is_column table column v ≡ true → (v.table ≡ table) × (v.column ≡ column)
+      same e = let p = both_true (bytes_eq v.table table) (v.column == column) e in ((bytes_eq-Decides v.table table).0 p.0, same_number v.column column p.1)
+
+-- entries that are as before are those of the columns of before
+pub known_same : (vs : List Varied) (old new : BTreeMap Place (Vec (Option Collation))) → IsUnchanged old new → AreKnown vs old → AreKnown vs new
+known_same vs old new same are table column = ap (λ es. or_none (lookup (λ k. is_eq (place_cmp (table, column) k)) es)) same ∙ are table column
+
+-- ---- what is asked
+
+one_more : (n : ℕ) → true ≡ not (suc n == 0)
+one_more n = grind (arith, nat_tests)
+
+some_first : (b : Bool) (c : Option Collation) (cs : List (Option Collation)) (has : Bool) → has ≡ not (length cs == 0) → (b || has) ≡ not (length (cond b (c ∷ cs) cs) == 0)
+some_first true c cs has e = one_more (length cs)
+some_first false c cs has e = e
+
+-- a column is among them where they say a collation of it, or that it has none
+pub has_collations : (table : List ℕ) (column : ℕ) (vs : List Varied) → has_varied table column vs ≡ not (length (collations_of table column vs) == 0)
+has_collations table column [] = refl
+has_collations table column (v ∷ vs) = some_first (is_column table column v) v.collation (collations_of table column vs) (has_varied table column vs) (has_collations table column vs)

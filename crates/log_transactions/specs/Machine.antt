@@ -90,7 +90,7 @@ behind s (Names gtid) = record s { stage = stages.Named; gtid = gtid; is_fresh =
 behind s Begins = record s { stage = stages.Begun }
 behind s (Maps database table) = record s { is_over = false; database = Some database; mapping = Some table; tables = if s.is_over then [] else s.tables }
 behind s (Columns columns) = record s { mapping = None; tables = with_columns s.tables s.mapping columns }
-behind s (Varies table column) = record s { varied = with_varied s.varied table column }
+behind s (Varies table column collation) = record s { varied = with_varied s.varied table column collation }
 behind s (Rows ends) = record s { is_over = true; is_open = not ends }
 behind s (Row change) = record s { changes = s.changes ++ change ∷ [] }
 behind s Savepoint = s
@@ -140,7 +140,7 @@ refusal s (Names gtid) = unless refusals.Gtid (is_idle s.stage)
 refusal s Begins = unless refusals.Transaction (is_named s.stage)
 refusal s (Maps database table) = map_refusal s database table
 refusal s (Columns columns) = unless refusals.Table (is_some s.mapping)
-refusal s (Varies table column) = None
+refusal s (Varies table column collation) = None
 refusal s (Rows ends) = unless refusals.Transaction (is_begun s.stage)
 refusal s (Row change) = row_refusal s change
 refusal s Savepoint = unless refusals.Transaction (is_begun s.stage)

@@ -40,10 +40,10 @@ executed_before before (Names gtid ∷ es) = before
 executed_before before (Precedes gtids ∷ es) = executed_before (set.union before gtids) es
 executed_before before (_ ∷ es) = executed_before before es
 
--- the columns that the server compares otherwise than their bytes, after these events
+-- the columns that the server compares otherwise than their bytes, with their collations, after these events
 abbrev pub varied_in : List Varied → List Event → List Varied
 varied_in vs [] = vs
-varied_in vs (Varies table column ∷ es) = varied_in (with_varied vs table column) es
+varied_in vs (Varies table column collation ∷ es) = varied_in (with_varied vs table column collation) es
 varied_in vs (_ ∷ es) = varied_in vs es
 
 -- ---- what a log owes

@@ -3,7 +3,8 @@
 //! What a contract sees: `Event` lists what a log tells, `step` what each event adds to a `LogState`, and where it is refused.
 //! `LogTransactions` has a method for each event; an event that is refused changes nothing. `AreOfLog` says of the events of a whole log what
 //! `LoggedTransactions` has: what the events mean is what the entries denote (GTIDs, changes and commits: nothing is dropped, doubled or
-//! moved), the set that was executed before the first GTID, and the columns that the server compares otherwise than their bytes.
+//! moved), the set that was executed before the first GTID, and the columns that the server compares otherwise than their bytes, with the
+//! collations that the log says. `has_other` tells whether it says another collation of a column than a given one.
 //! `events_mean_entries` is the law that events which are taken, up to the end of their last transaction, are so.
 //!
 //! Each transaction has a GTID, begins and ends once (or is a flush, without changes), and no statement of rows is open where it ends

@@ -14,6 +14,7 @@ use crate::joined::{has_all, join};
 use crate::mapped::{StatementTable, StatementTables, table_name};
 use crate::stages::{FileOrder, TransactionStage};
 use crate::varied::{Varied, VariedColumns};
+use collations::Collation;
 use gtid_set::{GtidSet, SetFault};
 use gtid_text::{Gtid, SourceId};
 use journal::Entry;
@@ -286,11 +287,17 @@ impl LogTransactions {
         Ok(())
     }
 
-    /// Takes a column of a table, counted from 0, whose values the server compares otherwise than their bytes.
-    pub fn vary(&mut self, table: Name, column: usize) -> Result<(), AllocError>
-        ensures { OnOk result (state self.new ≡ behind (state self.old) (Varies table column)) }
+    /// Takes a column of a table, counted from 0, whose values the server compares otherwise than their bytes, with its collation.
+    pub fn vary(
+        &mut self,
+        alloc: Global,
+        table: Name,
+        column: usize,
+        collation: Option<Collation>,
+    ) -> Result<(), AllocError>
+        ensures { OnOk result (state self.new ≡ behind (state self.old) (Varies table column collation)) }
     {
-        self.varied.add(table, column)
+        self.varied.add(alloc, table, column, collation)
     }
 
     /// Takes a rows event, which ends its statement or doesn't. (`Transaction`: none has begun.)

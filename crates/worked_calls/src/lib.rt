@@ -9,8 +9,8 @@
 //! numbers as they are written (`txn_journal`); a graph of dependencies (`dependency_graph`); keys and patches (`write_set`); events in one
 //! run (`replica_core`, `network`); a ring (`network`); seats of a shared replica: calls by turns, a write prepared without the lock, one
 //! that comes too late, two commits on threads, and `close` with a pass too few (`shared_replica`); what a drain adds (`applier`); lines of
-//! a history (`replica_lines`); the numbers of a small journal (`logical_timestamps`); and lines, types, values and whole logs of MySQL 9.7
-//! (`binlog_text`, `binlog_entries`).
+//! a history (`replica_lines`); the numbers of a small journal (`logical_timestamps`); and lines, types, values and whole logs of MySQL 9.7,
+//! with the collations of columns (`binlog_text`, `binlog_entries`, `log_transactions`).
 #![tactic(auto)]
 
 #[cfg(test)]

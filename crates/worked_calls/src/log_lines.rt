@@ -1,6 +1,9 @@
 //! Lines, types and values of MySQL 9.7's mysqlbinlog.
 
-use binlog_text::{ColumnType, IntegerType, LogLine, parse_type, read_line, read_value, unquote};
+use binlog_text::{
+    ColumnType, IntegerType, LogLine, collation_in, parse_type, read_line, read_value, unquote,
+};
+use collations::Collation;
 use row_images::write_value;
 use std::test::Fail;
 
@@ -149,6 +152,32 @@ fn types_that_are_refused(rt: HostRuntime) {
         parse_type(b"INT"),
         Some(ColumnType::Signed(IntegerType::Int))
     );
+}
+
+/// Types of columns, as mysqlbinlog prints them, and their collations.
+const COLLATED: &[(&[u8], Option<Collation>)] = &[
+    (
+        b"VARCHAR(300) CHARSET latin1 COLLATE latin1_swedish_ci",
+        Some(Collation::Latin1SwedishCi),
+    ),
+    (
+        b"TEXT CHARSET utf8mb4 COLLATE utf8mb4_0900_ai_ci",
+        Some(Collation::Utf8mb4_0900AiCi),
+    ),
+    (
+        b"VARCHAR(20) NOT NULL CHARSET utf8mb4 COLLATE utf8mb4_bin",
+        Some(Collation::Utf8mb4Bin),
+    ),
+    (b"CHAR(5) CHARSET cp1251 COLLATE cp1251_general_ci", None),
+    (b"INT UNSIGNED NOT NULL", None),
+    (b"VARCHAR(20) CHARSET utf8mb4_bin", None),
+];
+
+#[test]
+fn collations_of_types(rt: HostRuntime) {
+    for (named, want) in COLLATED {
+        assert_eq!(rt; collation_in(named), *want);
+    }
 }
 
 /// The bytes below the blank, as mysqlbinlog prints them.

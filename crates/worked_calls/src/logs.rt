@@ -1,7 +1,10 @@
 //! Logs of MySQL 9.7, shortened.
 use binlog_entries::{EntryRefusal, ImportFault, LogReader, ReadFault, import_journal, read_log};
+use collations::Collation;
 use gtid_set::GtidSet;
 use journal_words::set_word;
+use log_transactions::{Varied, VariedColumns};
+use rows::Name;
 use std::alloc::{AllocError, Global};
 use std::test::Fail;
 use txn_journal::decode_bundle;
@@ -303,5 +306,68 @@ fn a_key_of_text(rt: HostRuntime) -> Result<(), Fail> {
         }
         Err(_) => panic!(rt; "the log is not imported"),
     }
+    Ok(())
+}
+
+/// What a log says of the columns of its table: whether the server compares one by another collation than this one.
+fn others(
+    varied: &VariedColumns,
+    table: &Name,
+    collation: Collation,
+) -> Result<[bool; 2], AllocError> {
+    let first = varied.has_other(table, 0, collation)?;
+    let second = varied.has_other(table, 1, collation)?;
+    Ok([first, second])
+}
+
+#[test]
+fn a_column_with_its_collation(rt: HostRuntime) -> Result<(), Fail> {
+    let opening = GtidSet::empty(rt.alloc());
+    let text = text_of(rt.alloc(), &[HEAD, REST, END])?;
+    let log = read_log(rt.alloc(), &opening, &text)?;
+    let [
+        Varied {
+            table,
+            column,
+            collation,
+        },
+    ] = log.varied.as_slice()
+    else {
+        panic!(rt; "not one column");
+    };
+    assert!(rt; table.as_str() == "two" && *column == 1);
+    assert_eq!(rt; *collation, Some(Collation::Utf8mb4_0900AiCi));
+    let varied = VariedColumns::of(rt.alloc(), &log.varied)?;
+    assert_eq!(rt;
+        others(&varied, table, Collation::Utf8mb4_0900AiCi)?,
+        [false, false]
+    );
+    assert_eq!(rt;
+        others(&varied, table, Collation::Utf8mb4Bin)?,
+        [false, true]
+    );
+    Ok(())
+}
+
+#[test]
+fn a_column_with_two_collations(rt: HostRuntime) -> Result<(), Fail> {
+    let table = Name::short(String::from_str(rt.alloc(), "two")?)?;
+    let mut varied = VariedColumns::new(rt.alloc());
+    for collation in [
+        Some(Collation::Utf8mb4Bin),
+        None,
+        Some(Collation::Utf8mb4Bin),
+    ] {
+        varied.add(rt.alloc(), table.clone()?, 1, collation)?;
+        assert!(rt; varied.has(&table, 1)? && !varied.has(&table, 0)?);
+    }
+    assert_eq!(rt;
+        others(&varied, &table, Collation::Utf8mb4Bin)?,
+        [false, true]
+    );
+    let list = varied.into_list();
+    assert_eq!(rt; list.len(), 2);
+    assert_eq!(rt; list[0].collation, Some(Collation::Utf8mb4Bin));
+    assert_eq!(rt; list[1].collation, None);
     Ok(())
 }

@@ -4,18 +4,18 @@ use Rattle.binlog_bundle.proofs.head.place_of.Goals as goal
 
 pub returns-then-due-le1 : goal.returns-then-due-le1
 returns-then-due-le1 c lines are =
-    c.saturating_add.ensures ∙ ap (λ (k : ℕ). min (c.args.n + k) (2 ^ 64 - 1)) (sym (skips_all (c.loop-line.invariant.skipping lines are) c.in-Some.ensures.found (sym c.is_unsupported.ensures ∙ c.if-is_unsupported.false) c.if-due-le1.true))
+    c.saturating_add.ensures ∙ ap (λ (k : ℕ). min (c.args.n + k) (2 ^ 64 - 1)) (sym (skips_all (c.loop-line.invariant.skipping lines are) c.in-Some.ensures.found (sym c.is_passed.ensures ∙ c.if-is_passed.false) c.if-due-le1.true))
 
-pub loop-line-preserved-then-is_unsupported : goal.loop-line-preserved-then-is_unsupported
-loop-line-preserved-then-is_unsupported c = record {
+pub loop-line-preserved-then-is_passed : goal.loop-line-preserved-then-is_passed
+loop-line-preserved-then-is_passed c = record {
   fits = shorter c.loop-line.skipped c.args.head.now c.loop-line.left.now c.in-Some.line.now c.in-Some.after.now c.loop-line.invariant.fits c.in-Some.ensures.found;
-  skipping = λ lines are. skips_one (c.loop-line.invariant.skipping lines are) c.in-Some.ensures.found _ (sym c.is_unsupported.ensures ∙ c.if-is_unsupported.true) refl;
+  skipping = λ lines are. skips_one (c.loop-line.invariant.skipping lines are) c.in-Some.ensures.found _ (sym c.is_passed.ensures ∙ c.if-is_passed.true) refl;
 }
 
 pub loop-line-preserved : goal.loop-line-preserved
 loop-line-preserved c = record {
   fits = omega (arith, shorter c.loop-line.skipped c.args.head.now c.loop-line.left.now c.in-Some.line.now c.in-Some.after.now c.loop-line.invariant.fits c.in-Some.ensures.found);
-  skipping = λ lines are. skips_none (c.loop-line.invariant.skipping lines are) c.in-Some.ensures.found _ (sym c.is_unsupported.ensures ∙ c.if-is_unsupported.false) c.if-due-le1.false refl;
+  skipping = λ lines are. skips_none (c.loop-line.invariant.skipping lines are) c.in-Some.ensures.found _ (sym c.is_passed.ensures ∙ c.if-is_passed.false) c.if-due-le1.false refl;
 }
 
 pub returns : goal.returns

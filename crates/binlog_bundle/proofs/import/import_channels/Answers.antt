@@ -11,7 +11,7 @@ pub returns-in-Err-clause-refused : goal.returns-in-Err-clause-refused
 returns-in-Err-clause-refused g c =
     start_refused (terms_of c.args.grants (g.L.Logs.origin c.args.logs.now)) c.args.start.now c.in-Err.fault c.fault_in_head.result c.args.text.now c.args.head.now c.args.plain.text.items c.args.rest.now c.args.plain.passed_over c.requires.head c.requires.more c.requires.begins
     (subst (StopsAt c.in-Err.fault) c.deref.ensures.value (c.in-Err.ensures.refused [] (start_fed (bundle_reading c.start.result) c.start.ensures)))
-    (c.fault_in_head.ensures c.requires.head.plain_head.lines (head_lines c.args.grants c.args.head.now c.args.plain.text.items c.args.plain.passed_over c.requires.head.plain_head))
+    (c.fault_in_head.ensures c.requires.head.plain_head.lines (head_lines _ _ _ _ _ c.requires.head.plain_head))
 
 pub take_channels-requires : goal.take_channels-requires
 take_channels-requires g c =

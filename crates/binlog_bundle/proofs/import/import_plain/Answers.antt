@@ -19,4 +19,4 @@ pub returns-in-Err-clause-refused : goal.returns-in-Err-clause-refused
 returns-in-Err-clause-refused g c =
     head_refused (terms_of c.args.grants (g.L.Logs.origin c.args.logs.now)) c.in-Err.fault c.fault_in_head.result c.args.text.now c.args.head.now c.args.plain.text.items c.args.rest.now c.args.plain.passed_over c.requires
     (subst (λ (xs : List ℕ). IsHeadRefused c.in-Err.fault (c.args.plain.text.items ++ xs)) c.end_for.ensures c.in-Err.ensures.refused)
-    (c.fault_in_head.ensures c.requires.plain_head.lines (head_lines c.args.grants c.args.head.now c.args.plain.text.items c.args.plain.passed_over c.requires.plain_head))
+    (c.fault_in_head.ensures c.requires.plain_head.lines (head_lines _ _ _ _ _ c.requires.plain_head))

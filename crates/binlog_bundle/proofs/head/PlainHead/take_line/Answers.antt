@@ -1,12 +1,11 @@
-use Rattle.std.proofs.Common.{ℕ, List, ◌++◌, sym, ap, ◌∙◌}
-use Rattle.binlog_bundle.proofs.Heading.{plain_line, or_false}
+use Rattle.std.proofs.Common.{◌∙◌}
+use Rattle.binlog_bundle.specs.Heads.{is_unsupported}
+use Rattle.binlog_bundle.proofs.Heading.{plain_line, or_false, when_ok}
 use Rattle.binlog_bundle.proofs.head.PlainHead.take_line.Goals as goal
 
-pub returns-in_default-clause-granted : goal.returns-in_default-clause-granted
-returns-in_default-clause-granted c = (plain_line c.args.grants c.args.line.now c.in_default.ensures).0
+pub take_other-requires : goal.take_other-requires
+take_other-requires c = plain_line c.args.line.now c.in-None.ensures
 
-pub returns-in_default-clause-text : goal.returns-in_default-clause-text
-returns-in_default-clause-text c = c.in_ok-take_plain.ensures.text ∙ ap (λ (xs : List ℕ). c.args.self.now.text.items ++ xs) (sym (plain_line c.args.grants c.args.line.now c.in_default.ensures).1)
-
-pub returns-in_default-clause-passed : goal.returns-in_default-clause-passed
-returns-in_default-clause-passed c = c.take_plain.ensures.passed ∙ or_false c.args.self.now.passed_over _ (plain_line c.args.grants c.args.line.now c.in_default.ensures).2
+pub returns-in-None-clause-passed : goal.returns-in-None-clause-passed
+returns-in-None-clause-passed c =
+    when_ok c.take_other.result (c.take_other.ensures.passed ∙ or_false c.args.self.now.passed_over (is_unsupported c.args.line.now) (plain_line c.args.line.now c.in-None.ensures))

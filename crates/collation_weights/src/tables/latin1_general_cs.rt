@@ -1,0 +1,42 @@
+//! The weights of latin1_general_cs, as MySQL 9.7.4-2 has them.
+//! Written by tools/collations. Do not edit.
+use crate::row::RowKind::{Rising, Same};
+use crate::row::WeightRow;
+
+#[rattlefmt::skip]
+pub(crate) static ROWS: [WeightRow; 119] = [
+    WeightRow(0x0, Rising, 0, 1), WeightRow(0x42, Same, 1, 1), WeightRow(0x43, Same, 2, 1), WeightRow(0x44, Same, 3, 1), WeightRow(0x45, Same, 4, 1), WeightRow(0x46, Same, 5, 1), WeightRow(0x47, Same, 6, 1), WeightRow(0x48, Same, 7, 1),
+    WeightRow(0x49, Same, 8, 1), WeightRow(0x4A, Same, 9, 1), WeightRow(0x4B, Same, 10, 1), WeightRow(0x4C, Same, 11, 1), WeightRow(0x4D, Same, 12, 1), WeightRow(0x4E, Same, 13, 1), WeightRow(0x4F, Same, 14, 1), WeightRow(0x50, Same, 15, 1),
+    WeightRow(0x51, Same, 16, 1), WeightRow(0x52, Same, 17, 1), WeightRow(0x53, Same, 18, 1), WeightRow(0x54, Same, 19, 1), WeightRow(0x55, Same, 20, 1), WeightRow(0x56, Same, 21, 1), WeightRow(0x57, Same, 22, 1), WeightRow(0x58, Same, 23, 1),
+    WeightRow(0x59, Same, 24, 1), WeightRow(0x5A, Same, 25, 1), WeightRow(0x5B, Rising, 26, 1), WeightRow(0x61, Same, 27, 1), WeightRow(0x62, Same, 28, 1), WeightRow(0x63, Same, 29, 1), WeightRow(0x64, Same, 30, 1), WeightRow(0x65, Same, 31, 1),
+    WeightRow(0x66, Same, 32, 1), WeightRow(0x67, Same, 33, 1), WeightRow(0x68, Same, 34, 1), WeightRow(0x69, Same, 35, 1), WeightRow(0x6A, Same, 36, 1), WeightRow(0x6B, Same, 37, 1), WeightRow(0x6C, Same, 38, 1), WeightRow(0x6D, Same, 39, 1),
+    WeightRow(0x6E, Same, 40, 1), WeightRow(0x6F, Same, 41, 1), WeightRow(0x70, Same, 42, 1), WeightRow(0x71, Same, 43, 1), WeightRow(0x72, Same, 44, 1), WeightRow(0x73, Same, 45, 1), WeightRow(0x74, Same, 46, 1), WeightRow(0x75, Same, 47, 1),
+    WeightRow(0x76, Same, 48, 1), WeightRow(0x77, Same, 49, 1), WeightRow(0x78, Same, 50, 1), WeightRow(0x79, Same, 51, 1), WeightRow(0x7A, Same, 52, 1), WeightRow(0x7B, Rising, 53, 1), WeightRow(0x7F, Rising, 54, 1), WeightRow(0xC0, Same, 55, 1),
+    WeightRow(0xC1, Same, 56, 1), WeightRow(0xC2, Same, 57, 1), WeightRow(0xC3, Same, 58, 1), WeightRow(0xC4, Same, 59, 1), WeightRow(0xC5, Same, 60, 1), WeightRow(0xC6, Same, 61, 1), WeightRow(0xC7, Same, 62, 1), WeightRow(0xC8, Same, 63, 1),
+    WeightRow(0xC9, Same, 64, 1), WeightRow(0xCA, Same, 65, 1), WeightRow(0xCB, Same, 66, 1), WeightRow(0xCC, Same, 67, 1), WeightRow(0xCD, Same, 68, 1), WeightRow(0xCE, Same, 69, 1), WeightRow(0xCF, Same, 70, 1), WeightRow(0xD0, Same, 71, 1),
+    WeightRow(0xD1, Same, 72, 1), WeightRow(0xD2, Same, 73, 1), WeightRow(0xD3, Same, 74, 1), WeightRow(0xD4, Same, 75, 1), WeightRow(0xD5, Same, 76, 1), WeightRow(0xD6, Same, 77, 1), WeightRow(0xD7, Same, 78, 1), WeightRow(0xD8, Same, 79, 1),
+    WeightRow(0xD9, Same, 80, 1), WeightRow(0xDA, Same, 81, 1), WeightRow(0xDB, Same, 82, 1), WeightRow(0xDC, Same, 83, 1), WeightRow(0xDD, Same, 84, 1), WeightRow(0xDE, Same, 85, 1), WeightRow(0xDF, Same, 86, 1), WeightRow(0xE0, Same, 87, 1),
+    WeightRow(0xE1, Same, 88, 1), WeightRow(0xE2, Same, 89, 1), WeightRow(0xE3, Same, 90, 1), WeightRow(0xE4, Same, 91, 1), WeightRow(0xE5, Same, 92, 1), WeightRow(0xE6, Same, 93, 1), WeightRow(0xE7, Same, 94, 1), WeightRow(0xE8, Same, 95, 1),
+    WeightRow(0xE9, Same, 96, 1), WeightRow(0xEA, Same, 97, 1), WeightRow(0xEB, Same, 98, 1), WeightRow(0xEC, Same, 99, 1), WeightRow(0xED, Same, 100, 1), WeightRow(0xEE, Same, 101, 1), WeightRow(0xEF, Same, 102, 1), WeightRow(0xF0, Same, 103, 1),
+    WeightRow(0xF1, Same, 104, 1), WeightRow(0xF2, Same, 105, 1), WeightRow(0xF3, Same, 106, 1), WeightRow(0xF4, Same, 107, 1), WeightRow(0xF5, Same, 108, 1), WeightRow(0xF6, Same, 109, 1), WeightRow(0xF7, Same, 110, 1), WeightRow(0xF8, Same, 111, 1),
+    WeightRow(0xF9, Same, 112, 1), WeightRow(0xFA, Same, 113, 1), WeightRow(0xFB, Same, 114, 1), WeightRow(0xFC, Same, 115, 1), WeightRow(0xFD, Same, 116, 1), WeightRow(0xFE, Same, 117, 1), WeightRow(0xFF, Same, 118, 1),
+];
+
+#[rattlefmt::skip]
+pub(crate) static WEIGHTS: [u16; 119] = [
+    0x00, 0x51, 0x53, 0x57, 0x5B, 0x65, 0x67, 0x69,
+    0x6B, 0x75, 0x77, 0x79, 0x7B, 0x7D, 0x81, 0x8F,
+    0x91, 0x93, 0x95, 0x98, 0x9A, 0xA4, 0xA6, 0xA8,
+    0xAA, 0xAF, 0xB3, 0x42, 0x52, 0x54, 0x58, 0x5C,
+    0x66, 0x68, 0x6A, 0x6C, 0x76, 0x78, 0x7A, 0x7C,
+    0x7E, 0x82, 0x90, 0x92, 0x94, 0x96, 0x99, 0x9B,
+    0xA5, 0xA7, 0xA9, 0xAB, 0xB0, 0xB9, 0xBF, 0x43,
+    0x45, 0x47, 0x49, 0x4B, 0x4D, 0x4F, 0x55, 0x5D,
+    0x5F, 0x61, 0x63, 0x6D, 0x6F, 0x71, 0x73, 0x59,
+    0x7F, 0x83, 0x85, 0x87, 0x89, 0x8B, 0xBD, 0x8D,
+    0x9C, 0x9E, 0xA0, 0xA2, 0xAC, 0xB1, 0x97, 0x44,
+    0x46, 0x48, 0x4A, 0x4C, 0x4E, 0x50, 0x56, 0x5E,
+    0x60, 0x62, 0x64, 0x6E, 0x70, 0x72, 0x74, 0x5A,
+    0x80, 0x84, 0x86, 0x88, 0x8A, 0x8C, 0xBE, 0x8E,
+    0x9D, 0x9F, 0xA1, 0xA3, 0xAD, 0xB2, 0xAE,
+];

@@ -1,0 +1,5 @@
+pub mod Joined
+pub mod Each
+pub mod Filed
+pub mod HiddenLaws
+pub mod Untouched

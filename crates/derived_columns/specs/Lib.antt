@@ -1,0 +1,7 @@
+pub mod Each
+pub mod Columns
+pub mod Images
+pub mod Faults
+pub mod Tables
+pub mod Entries
+pub mod Laws
