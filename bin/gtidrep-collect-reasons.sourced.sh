@@ -2,17 +2,18 @@
 #   reason SERVER WORD TABLE WHAT    notes a reason: its word, the table that it is of (or -), and what it is
 #   tell_reasons                     tells all that were noted, if any were, and ends the program
 #   about_opening                    what the beginning is, in sentences
-# It wants `work` (a folder; its file `reasons` is emptied where reasons are to be noted anew), `muted` (the words that are no reason), `excluded` (the
-# tables that are left out), `docs` (the folder of the documents), `called` (a server as sentences call it) and `tell`; for the
-# beginning also `opening`, `opening_file` and the file `older`, whose lines are `<server> <table>`.
+# It wants `work` (a folder; its file `reasons` is emptied where reasons are to be noted anew, and `excluded` has the tables that are left out, which
+# are also in the variable `excluded`), `muted` (the words that are no reason), `docs` (the folder of the documents), `called` (a server as sentences call it) and `tell`; for the
+# beginning also `opening`, `opening_file`, `folder`, `rows_are_known`, `unescaped` and the file `older`, whose lines are `<server> <table>`.
 # shellcheck shell=bash disable=SC2154
 
 reason() { printf '%s\t%s\t%s\t%s\n' "$(called "$1")" "$2" "$3" "$4" >>"$work/reasons"; }
 
 # Reasons of one kind and the same servers are one sentence, but for those that speak of one thing each: lines `<reason> TAB <servers> TAB <count> TAB <what>`.
 grouped() {
-  awk -F'\t' -v muted=" ${!muted[*]} " -v excluded=" ${excluded[*]} " -v each=' setting version filter no-table difference same-name one-server purged tags damaged ' '
-    index(muted, " " $2 " ") || index(excluded, " " $3 " ") {next}
+  awk -F'\t' -v muted=" ${!muted[*]} " -v each=' setting version filter no-table difference one-server purged tags damaged ' '
+    NR == FNR {out[$1] = 1; next}
+    index(muted, " " $2 " ") || $3 in out {next}
     {key = $2 FS $4}
     !(key in servers) {servers[key] = $1; keys[++n] = key; next}
     index(", " servers[key] ", ", ", " $1 ", ") == 0 {servers[key] = servers[key] ", " $1}
@@ -23,7 +24,7 @@ grouped() {
         all[what] = all[what] (count[what]++ ? ", " : "") part[2]
       }
       for (i = 1; i <= m; i++) print head[groups[i]] FS count[groups[i]] FS all[groups[i]]
-    }' "$work/reasons"
+    }' "$work/excluded" "$work/reasons"
 }
 
 leave_out='or leave it out by --exclude-table'
@@ -43,16 +44,13 @@ sentence() {
     damaged) echo "$them: the bytes of its log aren't those that a server writes, in the file, at the offset and for the reason $what. Collect again, and if it stays, begin at an opening after it" ;;
     packed) echo "$them: the log has transactions whose events are packed into one (binlog_transaction_compression), in these files from these offsets on: $what. Begin at an opening after them, or go the way by mysqlbinlog's text ($docs/RECIPES.md, 'A bundle from the text of logs')" ;;
     difference) echo "$them differ in the table $what. Make it alike on both, $leave_out" ;;
-    same-name) echo "$them: the tables $what have one name, and the head names tables without their database. Leave all but one of them out by --exclude-table" ;;
     engine) echo "$them: tables that aren't of InnoDB ($n): $what. Give each ENGINE=InnoDB, $leave_out" ;;
-    name) echo "$them: tables whose names no bundle of this version takes ($n): $what. Rename each (small letters, digits and _), $leave_out" ;;
-    number-key) echo "$them: columns of keys for which 0 and -0 are one value, and two here ($n): $what. Give each another type, or leave its table out by --exclude-table, or give --bytes: then keys of 0 and -0 may be missed" ;;
     collation) echo "$them: columns of keys of collations that aren't taken ($n): $what. Give each one of the collations that gtidrep-collect --help lists, $leave_out, or give --bytes: then two values that a server calls equal may be missed" ;;
     columns) echo "$them: tables with too many columns ($n): $what. Leave each out by --exclude-table" ;;
     keys) echo "$them: tables with too many unique keys ($n): $what. Drop some, $leave_out" ;;
-    prefix-key) echo "$them: unique keys that hold a prefix of a column ($n): $what. Make each a key of the whole column, or leave its table out by --exclude-table" ;;
+    prefix-key) echo "$them: unique keys that hold a prefix of a column of a collation that isn't taken ($n): $what. Make each a key of the whole column, or leave its table out by --exclude-table" ;;
     expression-key) echo "$them: unique keys that hold an expression ($n): $what. Make each a key of a generated column, or leave its table out by --exclude-table" ;;
-    no-primary-key) echo "$them: tables without a primary key ($n): $what. Give each one, $leave_out" ;;
+    no-primary-key) echo "$them: tables without a primary key or a unique key without NULLs ($n): $what. Give each one, $leave_out, or go without --opening: then a whole row is the key, and rows aren't known" ;;
     foreign-key) echo "$them: foreign keys, which aren't looked at ($n): $what. Give --without-foreign-keys: then the verdict doesn't see what servers do by them. Or leave their tables out by --exclude-table" ;;
     cascade) echo "$them: foreign keys whose changes a server before 9.7 doesn't log ($n): $what. Such logs lack changes: take servers of 9.7, or foreign keys without cascades" ;;
     *) echo "$them: $1 ($n): $what" ;;
@@ -67,6 +65,9 @@ tell_reasons() {
   exit 10
 }
 
+# The tables whose only key is the whole row.
+keyless() { sed -n 's/^collate \([^ ]*\) row$/\1/p' "$folder/head.part" | unescaped; }
+
 # Where the logs begin, and whether the rows there are known.
 about_opening() {
   if [ -n "$opening_file" ]; then
@@ -74,7 +75,9 @@ about_opening() {
   elif [ "$opening" != - ]; then
     echo "The beginning is the executed set $opening, what any of the servers has purged. The rows there aren't known (--opening would name a server that stands there)."
   elif [ -s "$work/older" ]; then
-    echo "The beginning is the empty set. The rows there aren't known, for tables have rows that are older than the logs ($(wc -l <"$work/older"), the first is $(head -1 "$work/older" | sed 's/\(.*\) \(.*\)/\2 of \1/'); --opening would name a server that stands there)."
+    echo "The beginning is the empty set. The rows there aren't known, for tables have rows that are older than the logs ($(wc -l <"$work/older"), the first is $(head -1 "$work/older" | sed 's/\([^ ]*\) \(.*\)/\2 of \1/'); --opening would name a server that stands there)."
+  elif ! rows_are_known; then
+    echo "The beginning is the empty set. Changes aren't applied to rows, for tables have no key but the whole row ($(keyless | wc -l), the first is $(keyless | head -1))."
   else
     echo "The beginning is the empty set with empty tables: no server has purged a transaction, and no table has rows of which its log has none."
   fi

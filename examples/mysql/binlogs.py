@@ -73,7 +73,7 @@ def rows():
                 "x": lambda: bytes_word(bytes.fromhex(text))}[column]()
 
     for line in sys.stdin:
-        print("row numbers", *(word(*it) for it in zip("ifdxxxf", line.rstrip("\n").split("\t"))))
+        print("row v.numbers", *(word(*it) for it in zip("ifdxxxf", line.rstrip("\n").split("\t"))))
 
 
 # ---- the bytes of a file

@@ -102,7 +102,7 @@ def rows(collation, pairs, seed):
 def hidden_values(file):
     """The hidden value of each row of a bundle, by the row's number."""
     with open(file, encoding="ascii") as it:
-        words = (line.split() for line in it if line.startswith("ins t "))
+        words = (line.split() for line in it if line.startswith("ins c.t "))
         return {int(number): weights for _, _, _, number, weights in words}
 
 

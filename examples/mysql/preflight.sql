@@ -1,8 +1,8 @@
 -- Prints what of a server's tables gtidrep doesn't take: a line `<reason> TAB <database.table> TAB <what it is>` for each (bin/gtidrep-collect has
 -- a sentence for each reason). What tables.sql prints as `unsupported` isn't repeated here.
 --   mysql -N < preflight.sql
--- The limits of a bundle of version 3, and the form of the names of tables that import takes of logs:
-SET @most_columns = 4096, @most_keys = 64, @form_of_names = '^[a-z_][a-z0-9_]{0,63}$';
+-- The limits of a bundle of version 3:
+SET @most_columns = 4096, @most_keys = 64;
 -- The collations whose weights are known, as tables.sql has them:
 SET @collations = CONCAT_WS(',', 'utf8mb4_0900_ai_ci', 'utf8mb4_0900_as_cs', 'utf8mb4_general_ci', 'utf8mb4_unicode_ci', 'utf8mb4_unicode_520_ci', 'utf8mb4_bin',
   'utf8mb3_general_ci', 'utf8mb3_unicode_ci', 'utf8mb3_bin', 'latin1_swedish_ci', 'latin1_general_ci', 'latin1_general_cs', 'latin1_bin', 'ascii_general_ci', 'ascii_bin');
@@ -12,23 +12,17 @@ WITH tables_here AS (
 columns_here AS (
   SELECT c.*, of_table, CONCAT_WS('.', of_table, COLUMN_NAME) AS place FROM information_schema.COLUMNS c JOIN tables_here USING (TABLE_SCHEMA, TABLE_NAME)),
 unique_columns AS (
-  SELECT s.TABLE_SCHEMA, s.TABLE_NAME, s.COLUMN_NAME, s.INDEX_NAME FROM information_schema.STATISTICS s WHERE NON_UNIQUE = 0)
+  SELECT s.TABLE_SCHEMA, s.TABLE_NAME, s.COLUMN_NAME, s.INDEX_NAME, s.SUB_PART FROM information_schema.STATISTICS s WHERE NON_UNIQUE = 0)
 SELECT 'engine' AS reason, of_table, CONCAT(of_table, ' (', ENGINE, ')') AS what FROM tables_here WHERE ENGINE <> 'InnoDB'
 UNION ALL
-SELECT 'name', of_table, of_table FROM tables_here WHERE NOT REGEXP_LIKE(TABLE_NAME, @form_of_names, 'c')
-UNION ALL
 SELECT DISTINCT 'collation', of_table, CONCAT(place, ' (', COLLATION_NAME, ')') FROM columns_here JOIN unique_columns USING (TABLE_SCHEMA, TABLE_NAME, COLUMN_NAME)
-WHERE DATA_TYPE IN ('char', 'varchar', 'tinytext', 'text', 'mediumtext', 'longtext') AND COLLATION_NAME <> 'utf8mb4_0900_bin'
+WHERE SUB_PART IS NULL AND DATA_TYPE IN ('char', 'varchar', 'tinytext', 'text', 'mediumtext', 'longtext') AND COLLATION_NAME <> 'utf8mb4_0900_bin'
   AND NOT (DATA_TYPE = 'char' AND COLLATION_NAME LIKE '%\_bin') AND NOT FIND_IN_SET(REGEXP_REPLACE(COLLATION_NAME, '^utf8_', 'utf8mb3_'), @collations)
 UNION ALL
 SELECT 'columns', of_table, CONCAT(of_table, ' (', COUNT(*), ')') FROM columns_here GROUP BY of_table HAVING COUNT(*) > @most_columns
 UNION ALL
 SELECT 'keys', of_table, CONCAT(of_table, ' (', COUNT(DISTINCT INDEX_NAME), ')') FROM tables_here JOIN unique_columns USING (TABLE_SCHEMA, TABLE_NAME)
 WHERE INDEX_NAME <> 'PRIMARY' GROUP BY of_table HAVING COUNT(DISTINCT INDEX_NAME) > @most_keys
-UNION ALL
--- 0 and -0 are one key to a server, and have other bytes
-SELECT DISTINCT 'number-key', of_table, CONCAT(place, ' (', UPPER(DATA_TYPE), ')') FROM columns_here JOIN unique_columns USING (TABLE_SCHEMA, TABLE_NAME, COLUMN_NAME)
-WHERE DATA_TYPE IN ('float', 'double')
 ORDER BY reason, what;
 -- A server before 9.7 logs no row that a foreign key's cascade changes.
 SELECT 'cascade', '-', CONCAT_WS('.', CONSTRAINT_SCHEMA, TABLE_NAME, CONSTRAINT_NAME) FROM information_schema.REFERENTIAL_CONSTRAINTS

@@ -7,6 +7,7 @@
 #   mysql_log N [ARGUMENT..]   the text of server N's binary logs, as `gtidrep import` reads it; its status is not 0 where mysqlbinlog failed,
 #                              and then the text is not that of the whole log, though it ends as one
 #   mysql_stop N               stops server N
+# Server N listens on port ${MYSQL_PORTS:-3316}N.
 : "${MYSQL_DIR:?a folder for the packages and the data}"
 mkdir -p "$MYSQL_DIR"
 MYSQL_DIR=$(cd "$MYSQL_DIR" && pwd)
@@ -71,7 +72,7 @@ mysql_start() {
   local server=$1 folder=$MYSQL_DIR/data/$1
   shift
   mysql_server --datadir="$folder/d" --plugin-dir="$mysql_root/usr/lib/mysql/plugin" --socket="$folder/socket" --pid-file="$folder/pid" \
-    --bind-address=127.0.0.1 --port="3316$server" --mysqlx=OFF --server-id="$server" --gtid-mode=ON --enforce-gtid-consistency=ON \
+    --bind-address=127.0.0.1 --port="${MYSQL_PORTS:-3316}$server" --mysqlx=OFF --server-id="$server" --gtid-mode=ON --enforce-gtid-consistency=ON \
     --log-bin=bin --relay-log=relay --binlog-format=ROW --binlog-row-image=FULL --binlog-row-metadata=FULL \
     --innodb-flush-log-at-trx-commit=0 --sync-binlog=0 --innodb-buffer-pool-size=64M --performance-schema=OFF --skip-name-resolve \
     --secure-file-priv="" --log-error="$folder/errors.err" "$@" >"$folder/output" 2>&1 &

@@ -73,7 +73,7 @@ KINDS = {
     "whole": lambda: number(-(2**31), 2**31 - 1),
     "uwhole": lambda: number(0, 2**32 - 1),
     "big": lambda: number(-(2**63), 2**63 - 1),
-    "ubig": lambda: number(0, 2**63 - 1),
+    "ubig": lambda: number(0, 2**64 - 1),
     "flag": lambda: number(0, 1),
     "bits": lambda: number(0, 2**13 - 1),
     "made": lambda: DICE.choice(["0", str(DICE.randrange(1901, 2156))]),

@@ -79,7 +79,7 @@ def columns():
     """The type of each column, and what makes a value of it."""
     for it, width in (("TINYINT", 8), ("SMALLINT", 16), ("MEDIUMINT", 24), ("INT", 32), ("BIGINT", 64)):
         yield it, number(-2 ** (width - 1), 2 ** (width - 1) - 1)
-        yield f"{it} UNSIGNED", number(0, min(2 ** width, 2 ** 63) - 1)
+        yield f"{it} UNSIGNED", number(0, 2 ** width - 1)
         yield "YEAR", lambda: str(DICE.choice([0, 1901, 2155, DICE.randint(1901, 2155)]))
     for precision, scale in ((1, 0), (2, 1), (5, 2), (9, 0), (9, 9), (10, 0), (18, 9), (19, 10), (27, 0), (30, 30), (38, 5), (65, 0), (65, 30)):
         yield f"DECIMAL({precision}, {scale})", decimal(precision, scale)

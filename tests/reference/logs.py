@@ -12,10 +12,10 @@ from .rows import Change, Row, Value
 
 HEAD = re.compile(r"#\d[^\t]*\t(.*)")
 ROWS = re.compile(r"(?:Write|Update|Delete)_rows: table id \d+ ?(flags: STMT_END_F)?")
-MAPPED = re.compile(r"Table_map: `(\w+)`\.`(\w+)` mapped to number \d+")
+MAPPED = re.compile(r"Table_map: `([^`]*)`\.`([^`]*)` mapped to number \d+")
 COLUMN = re.compile(r"# (?:Columns\(|        )`\w+` (.*)[,)]")
 NAMED = re.compile(r"SET @@SESSION\.GTID_NEXT= '(.*)'/\*!\*/;")
-ROW = re.compile(r"### (INSERT INTO|UPDATE|DELETE FROM) `(\w+)`\.`(\w+)`")
+ROW = re.compile(r"### (INSERT INTO|UPDATE|DELETE FROM) `([^`]*)`\.`([^`]*)`")
 VALUE = re.compile(r"###   @(\d+)=(.*)")
 ESCAPES = {"b": 8, "t": 9, "n": 10, "f": 12, "r": 13, "'": 39, "\\": 92}
 LAST = ["DELIMITER ;", "# End of log file", "/*!50003 SET COMPLETION_TYPE=@OLD_COMPLETION_TYPE*/;", "/*!50530 SET @@SESSION.PSEUDO_SLAVE_MODE=0*/;"]
@@ -24,6 +24,12 @@ LAST = ["DELIMITER ;", "# End of log file", "/*!50003 SET COMPLETION_TYPE=@OLD_C
 def refuse(line: int, word: str) -> None:
     """Raises the refusal of a line."""
     raise Refused(f"refused import line {line} {word}")
+
+
+def name_in(database: str, table: str) -> str:
+    """The name of a table of a database: each byte but letters, digits and three signs of ASCII is an escape."""
+    parts = (re.sub(rb"[^A-Za-z0-9_$-]", lambda it: b"%%%02x" % ord(it[0]), it.encode("latin-1")) for it in (database, table))
+    return b".".join(parts).decode()
 
 
 def value_in(text: str) -> Value:
@@ -101,7 +107,7 @@ class Log:
             self.is_begun = True
         elif text == "COMMIT":
             self.commit(line)
-        elif re.fullmatch(r"(FLUSH|flush) [A-Za-z_ ]*", text):
+        elif re.fullmatch(r"(FLUSH|flush) [A-Za-z_ ]*", text) or re.fullmatch(r"(?i:analyze|optimize) [A-Za-z0-9_$.,` -]*", text):
             self.is_begun = True
             self.commit(line)
         elif not re.fullmatch(r"SAVEPOINT `\w+`", text):
@@ -112,7 +118,7 @@ class Log:
         found = ROW.fullmatch(text)
         if found:
             self.end_row()
-            self.row = found[1], found[3]
+            self.row = found[1], name_in(found[2], found[3])
         elif text in ("### WHERE", "### SET"):
             self.images.append([])
         elif not text.startswith("### Extra row info for partitioning: "):

@@ -19,7 +19,13 @@ FIRST = [
     "/*!50003 SET @OLD_COMPLETION_TYPE=@@COMPLETION_TYPE,COMPLETION_TYPE=0*/;",
     "DELIMITER /*!*/;",
 ]
-TABLES = {"orders": Table("orders", 3, ((0,), (1,))), "t": Table("t", 2, ((0,),))}
+# the tables by their databases and names, and what the head calls them: two databases have a table of one name
+TABLES = {
+    ("d", "orders"): Table("d.orders", 3, ((0,), (1,))),
+    ("d", "t"): Table("d.t", 2, ((0,),)),
+    ("My shop.", "t"): Table("My%20shop%2e.t", 2, ((0,),)),
+}
+NAMES = {table.name: names for names, table in TABLES.items()}
 TYPES = ["BIGINT NOT NULL", "VARBINARY(40)", "BIGINT"]
 SHORT = {8: "\\b", 9: "\\t", 10: "\\n", 12: "\\f", 13: "\\r", 39: "\\'", 92: "\\\\"}
 WORDS = {"ins": ("Write", "INSERT INTO"), "upd": ("Update", "UPDATE"), "del": ("Delete", "DELETE FROM")}
@@ -70,9 +76,10 @@ class LogMaker:
         changes = [self.change() for _ in range(self.chance.randrange(1, 4))]
         lines: list[str] = []
         for name in dict.fromkeys(it.table for it in changes):
-            lines += self.event(f"Table_map: `d`.`{name}` mapped to number {self.chance.randrange(90, 99)}")
+            database, own = NAMES[name]
+            lines += self.event(f"Table_map: `{database}`.`{own}` mapped to number {self.chance.randrange(90, 99)}")
             lines.append("# has_generated_invisible_primary_key=0")
-            columns = TABLES[name].columns
+            columns = TABLES[database, own].columns
             for at in range(columns):
                 front, end = "#         " if at else "# Columns(", "," if at < columns - 1 else ")"
                 lines.append(f"{front}`c{at}` {TYPES[at]}{end}")
@@ -87,7 +94,8 @@ class LogMaker:
     def row(self, change: Change) -> list[str]:
         """The lines of a row."""
         lines = ["### Extra row info for partitioning: partition: 2"] if self.is_one_in(6) else []
-        lines.append(f"### {WORDS[change.line()[:3]][1]} `d`.`{change.table}`")
+        database, own = NAMES[change.table]
+        lines.append(f"### {WORDS[change.line()[:3]][1]} `{database}`.`{own}`")
         for mark, image in (("### WHERE", change.before), ("### SET", change.after)):
             if image is not None:
                 lines += [mark, *(f"###   @{at}={shown(value)}" for at, value in enumerate(image, 1))]
@@ -130,7 +138,7 @@ class BundleOfLogs:
         self.options: list[str] = []
         self.version = "3"
         self.opening = GtidSet.of(Gtid(uuid("e"), it) for it in range(1, chance.randrange(1, 4)))
-        self.head = ["table orders 3 pk 0 uk 1", "table t 2 pk 0"]
+        self.head = ["table d.orders 3 pk 0 uk 1", "table d.t 2 pk 0", "table My%20shop%2e.t 2 pk 0"]
         self.files: dict[str, list[list[str]]] = {}
         self.executed: dict[str, GtidSet | None] = {}
         for name, letter in (("east", "a"), ("west", "b"))[: chance.randrange(1, 3)]:
@@ -233,9 +241,9 @@ class BundleOfLogs:
 
     def hidden(self) -> None:
         """The head has a hidden column, and a reference to a key."""
-        self.head = [it.replace("table orders 3 pk 0 uk 1", "table orders 3 pk 0 uk 1 hidden 1") for it in self.head]
+        self.head = [it.replace("table d.orders 3 pk 0 uk 1", "table d.orders 3 pk 0 uk 1 hidden 1") for it in self.head]
         places = [at for at, it in enumerate(self.head, 1) if it.startswith("table ")]
-        self.head.insert(places[-1], self.chance.choice(["fk t 1 orders 0", "fk orders 2 orders 1 cascade"]))
+        self.head.insert(places[-1], self.chance.choice(["fk d.t 1 d.orders 0", "fk d.orders 2 d.orders 1 cascade"]))
 
     def nothing(self) -> None:
         """No damage."""

@@ -62,7 +62,7 @@ not_written terms start name log (imports.Key table column) previous entries var
 not_written terms start name log (imports.Log fault) previous entries varied is h = record { previous = previous; entries = entries; varied = varied; log = is; refused = h }
 
 pub cant_bring : (terms : Terms) (start : BundleValue) (name log before : List ℕ) (fault : JournalFault) (found : ChannelFault) → CantJoin terms start name log before fault → IsJournalFault start.start.schema log fault found → CantFeedLog terms start name log before found
-cant_bring terms start name log before fault (channels.Own other) cant h = absurd h
+cant_bring terms start name log before fault (channels.Own other) cant h = h
 cant_bring terms start name log before fault channels.Unknown cant h = absurd h
 cant_bring terms start name log before fault (channels.Log other) cant h = absurd h
 cant_bring terms start name log before fault (channels.Logless why) cant h = absurd h

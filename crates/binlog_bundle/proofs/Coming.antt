@@ -90,9 +90,9 @@ channel_parts line after log behind cut = ap (λ (xs : List ℕ). with_line_feed
 pub come_more : (terms : Terms) (start : BundleValue) (text left line after log behind : List ℕ) (old new : ImportProgress) → is_channel line ≡ true
     → HasCome terms start text left old → left ≡ with_line_feed line ++ after → IsCut after log behind → FeedsChannel terms start line log old new → HasCome terms start text behind new
 come_more terms start text left line after log behind old new channel come begins cut f =
-    let assumes = assumed_for terms start f.own f.executed in
+    let assumes = assumed_for terms start f.own f.executed f.statements in
     let note = notes_for start f.own f.varied in
-    let c : ImportedLog = record { line = line; own = f.own; executed = f.executed; log = log; journal = f.brings.journal; varied = f.varied; assumed = assumes; notes = note } in
+    let c : ImportedLog = record { line = line; own = f.own; executed = f.executed; log = log; journal = f.brings.journal; varied = f.varied; statements = f.statements; assumed = assumes; notes = note } in
     record {
       head = come.head;
       plain = come.plain;
@@ -310,6 +310,7 @@ module _ {terms : Terms} {start : BundleValue} {text left line after log behind 
     has = has_log own said_here t;
     journal = cant.journal;
     varied = cant.varied;
+    statements = cant.statements;
     imports = cant.imports;
     stops = subst (StopsAt fault) (append_assoc h.come.written (with_line_feed own) cant.journal) cant.stops;
   }

@@ -10,9 +10,9 @@ use Rattle.lemmas.proofs.Numbers.{le_false}
 use Rattle.txn_journal.specs.Words.{IsOneLine, BeginsWithLine}
 use Rattle.binlog_entries.proofs.TransactionLaws.{flat_map_more}
 use Rattle.binlog_bundle.specs.Lines.{with_line_feed, AreLines}
-use Rattle.derived_columns.specs.declared.column.WeighedColumn.{WeighedColumn}
-use Rattle.binlog_bundle.specs.Collated.{collated, column_list, columns_of, weighed_line}
-use Rattle.binlog_bundle.specs.Heads.{is_unsupported, is_foreign_key, is_collate, is_passed, is_granted, is_granted_key, unsupported_in, plain_text, IsGranted, IsPlainHead, IsNotGranted, IsNoGrantedKey, IsNoCollate, IsNoPlainHead, skipped}
+use Rattle.derived_columns.specs.declared.column.DerivedColumn.{DerivedColumn}
+use Rattle.binlog_bundle.specs.Collated.{column_list, columns_of}
+use Rattle.binlog_bundle.specs.Heads.{is_unsupported, is_passed, is_granted, plain_text, IsGranted, IsPlainHead, IsNotGranted, IsNoPlainHead, skipped}
 use Rattle.binlog_bundle.specs.declared.head.HeadFault.{HeadFault}
 use Rattle.binlog_bundle.specs.declared.head.HeadFault.TheVariants as heads
 use Rattle.binlog_bundle.specs.declared.grants.Grants.{Grants}
@@ -42,7 +42,7 @@ when_ok (Err e) p = tt
 -- ---- heads
 
 -- some lines of a head have come, and this is the plain text of them, and whether some were passed over
-pub record HasHeadCome (grants : Grants) (columns : List WeighedColumn) (head left text : List ℕ) (passed_over : Bool) : Type 0 where
+pub record HasHeadCome (grants : Grants) (columns : List DerivedColumn) (head left text : List ℕ) (passed_over : Bool) : Type 0 where
   pub lines : List (List ℕ)
   pub parts : head ≡ flat_map with_line_feed lines ++ left
   pub granted : AllByRecursion (IsGranted grants) lines
@@ -55,7 +55,7 @@ all_of f xs ys ls line e g = g ∙ ap (λ (zs : List ℕ). zs ++ f line) e ∙ s
 or_last : (lines : List (List ℕ)) (line : List ℕ) → (list_any is_unsupported lines || is_unsupported line) ≡ list_any is_unsupported (lines ++ line ∷ [])
 or_last lines line = ap (λ (b : Bool). list_any is_unsupported lines || b) (or_false (is_unsupported line) false refl) ∙ sym (list_any-append is_unsupported lines (line ∷ []))
 
-pub head_more : (grants : Grants) (columns : List WeighedColumn) (head left line after text text_new : List ℕ) (passed passed_new : Bool) → HasHeadCome grants columns head left text passed → BeginsWithLine left line after → is_granted grants line ≡ true → text_new ≡ text ++ plain_text columns line → passed_new ≡ (passed || is_unsupported line) → HasHeadCome grants columns head after text_new passed_new
+pub head_more : (grants : Grants) (columns : List DerivedColumn) (head left line after text text_new : List ℕ) (passed passed_new : Bool) → HasHeadCome grants columns head left text passed → BeginsWithLine left line after → is_granted grants line ≡ true → text_new ≡ text ++ plain_text columns line → passed_new ≡ (passed || is_unsupported line) → HasHeadCome grants columns head after text_new passed_new
 head_more grants columns head left line after text text_new passed passed_new h begins granted t n = record {
   lines = h.lines ++ line ∷ [];
   parts =
@@ -68,7 +68,7 @@ head_more grants columns head left line after text text_new passed passed_new h 
   passed = n ∙ ap (λ (b : Bool). b || is_unsupported line) h.passed ∙ or_last h.lines line;
 }
 
-pub head_refused : (grants : Grants) (columns : List WeighedColumn) (head left line after text : List ℕ) (passed : Bool) (fault : HeadFault) → HasHeadCome grants columns head left text passed → BeginsWithLine left line after → IsNotGranted grants line fault → IsNoPlainHead grants head fault
+pub head_refused : (grants : Grants) (columns : List DerivedColumn) (head left line after text : List ℕ) (passed : Bool) (fault : HeadFault) → HasHeadCome grants columns head left text passed → BeginsWithLine left line after → IsNotGranted grants line fault → IsNoPlainHead grants head fault
 head_refused grants columns head left line after text passed heads.Memory h begins denied = tt
 head_refused grants columns head left line after text passed (heads.Unsupported what) h begins denied = record {
   before = h.lines;
@@ -85,11 +85,11 @@ whole_of : (grants : Grants) (ls : List (List ℕ)) → AllByRecursion (IsGrante
 whole_of grants [] all = tt
 whole_of grants (l ∷ ls) all = (all.0.0, whole_of grants ls all.1)
 
-pub head_lines : (grants : Grants) (columns : List WeighedColumn) (head plain : List ℕ) (passed : Bool) (h : IsPlainHead grants columns head plain passed) → AreLines h.lines head
+pub head_lines : (grants : Grants) (columns : List DerivedColumn) (head plain : List ℕ) (passed : Bool) (h : IsPlainHead grants columns head plain passed) → AreLines h.lines head
 head_lines grants columns head plain passed h = record { rest = h.rest; parts = h.parts; whole = whole_of grants h.lines h.granted; part = h.part }
 
 -- all lines have come
-pub head_whole : (grants : Grants) (columns : List WeighedColumn) (head left text plain : List ℕ) (passed : Bool) → ((lines : List (List ℕ)) → AreLines lines head → columns ≡ columns_of lines)
+pub head_whole : (grants : Grants) (columns : List DerivedColumn) (head left text plain : List ℕ) (passed : Bool) → ((lines : List (List ℕ)) → AreLines lines head → columns ≡ columns_of lines)
     → HasHeadCome grants columns head left text passed → IsOneLine left → plain ≡ text ++ left → IsPlainHead grants columns head plain passed
 head_whole grants columns head left text plain passed named h one e = record {
   lines = h.lines;
@@ -189,31 +189,31 @@ skips_end lines n left count due h one = h.counts ∙ ap (λ (ls : List (List �
 -- ---- columns that are named
 
 -- these were named by the lines before, and more lines are left
-pub record IsNaming (lines : List (List ℕ)) (left : List ℕ) (columns : List WeighedColumn) : Type 0 where
+pub record IsNaming (lines : List (List ℕ)) (left : List ℕ) (columns : List DerivedColumn) : Type 0 where
   pub more : List (List ℕ)
   pub are : AreLines more left
   pub all : columns ++ columns_of more ≡ columns_of lines
 
-pub names_none : (lines : List (List ℕ)) (head left : List ℕ) (columns : List WeighedColumn) → head ≡ left → columns ≡ [] → AreLines lines head → IsNaming lines left columns
+pub names_none : (lines : List (List ℕ)) (head left : List ℕ) (columns : List DerivedColumn) → head ≡ left → columns ≡ [] → AreLines lines head → IsNaming lines left columns
 names_none lines head left columns e f are = record {
   more = lines;
   are = subst (AreLines lines) e are;
-  all = ap (λ (cs : List WeighedColumn). cs ++ columns_of lines) f;
+  all = ap (λ (cs : List DerivedColumn). cs ++ columns_of lines) f;
 }
 
-pub names_more : (lines : List (List ℕ)) (left line after : List ℕ) (columns columns_new : List WeighedColumn) → IsNaming lines left columns → BeginsWithLine left line after → columns_new ≡ columns ++ column_list line → IsNaming lines after columns_new
+pub names_more : (lines : List (List ℕ)) (left line after : List ℕ) (columns columns_new : List DerivedColumn) → IsNaming lines left columns → BeginsWithLine left line after → columns_new ≡ columns ++ column_list line → IsNaming lines after columns_new
 names_more lines left line after columns columns_new h begins e =
     let first = first_of h.more left line after h.are begins in
     record {
       more = first.rest;
       are = first.are;
       all =
-          ap (λ (cs : List WeighedColumn). cs ++ columns_of first.rest) e
+          ap (λ (cs : List DerivedColumn). cs ++ columns_of first.rest) e
           ∙ append_assoc columns (column_list line) (columns_of first.rest)
           ∙ ap (λ (ls : List (List ℕ)). columns ++ columns_of ls) (sym first.is)
           ∙ h.all;
     }
 
-pub names_all : (lines : List (List ℕ)) (left : List ℕ) (columns : List WeighedColumn) → IsNaming lines left columns → IsOneLine left → columns ≡ columns_of lines
+pub names_all : (lines : List (List ℕ)) (left : List ℕ) (columns : List DerivedColumn) → IsNaming lines left columns → IsOneLine left → columns ≡ columns_of lines
 names_all lines left columns h one =
     sym (append-nil columns) ∙ ap (λ (ls : List (List ℕ)). columns ++ columns_of ls) (sym (no_lines h.more left h.are one)) ∙ h.all

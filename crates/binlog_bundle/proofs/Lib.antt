@@ -1,3 +1,4 @@
+mod Accepting
 pub mod Feeding
 pub mod Cutting
 pub mod Bringing
@@ -8,3 +9,4 @@ pub mod Saying
 pub mod Lacking
 pub mod Counting
 pub mod Weighing
+pub mod Fronts

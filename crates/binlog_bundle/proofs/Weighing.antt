@@ -7,7 +7,7 @@ use Rattle.gtid_set.specs.Sets.{Gtids}
 use Rattle.journal.specs.declared.Entry.{Entry}
 use Rattle.journal.specs.Writing.{is_number}
 use Rattle.log_transactions.specs.declared.machine.LoggedTransactions.{LoggedTransactions}
-use Rattle.derived_columns.specs.declared.column.WeighedColumn.{WeighedColumn}
+use Rattle.derived_columns.specs.declared.column.DerivedColumn.{DerivedColumn}
 use Rattle.binlog_bundle.specs.Logs.{Origin}
 use Rattle.binlog_bundle.specs.Weighed.{IsUnweighed, IsUnweighedLog}
 use Rattle.binlog_bundle.specs.declared.fault.Logless.TheVariants as why
@@ -26,7 +26,7 @@ pub same_numbers : (es ds : List Entry) → map (λ e. e.gtid) ds ≡ map (λ e.
 same_numbers es ds same all = numbers_of ds ∙ ap are_numbers same ∙ sym (numbers_of es) ∙ all
 
 -- a log has no hidden values, so the channel has no log with them
-pub unweighed_so : (columns : List WeighedColumn) (origin : Origin) (name text : List ℕ) (opening : Gtids) (log : LoggedTransactions) (fault : SourceFault)
+pub unweighed_so : (columns : List DerivedColumn) (origin : Origin) (name text : List ℕ) (opening : Gtids) (log : LoggedTransactions) (fault : SourceFault)
     → origin.is_log name text opening log.previous log.entries.items log.varied.items → IsUnweighedLog columns log fault → IsUnweighed columns origin name text opening fault
 unweighed_so columns origin name text opening log (sources.Text fault) has none = inr none
 unweighed_so columns origin name text opening log (sources.Logless why.Missing) has none = absurd none

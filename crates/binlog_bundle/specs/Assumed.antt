@@ -1,5 +1,5 @@
 -- What is assumed of a bundle of logs, as lines before its last one: what was granted of its channels and of its head, what of the opening
--- set the servers of channels hadn't executed, and which logs may be damaged unseen.
+-- set the servers of channels hadn't executed, which logs may be damaged unseen, and for which statements an operator answers.
 use Rattle.std.specs.Prelude.{◌≡◌, ℕ, Bool, List, [], ◌∷◌, ◌++◌, codes, Option, Some, None, if◌then◌else◌}
 use Rattle.std.specs.Cmp.Lexicographic.{slice_cmp}
 use Rattle.std.specs.FinSet as set
@@ -30,6 +30,10 @@ checksums_line channel = record { rank = 1; text = codes "assume checksums " ++ 
 abbrev pub opening_line : List ℕ → Gtids → AssumedLine
 opening_line channel part = record { rank = 2; text = codes "assume opening " ++ (channel ++ (32 ∷ canonical part)) }
 
+-- the statements of these transactions of this channel change no row of the tables, and stop no replica
+abbrev pub statements_line : List ℕ → Gtids → AssumedLine
+statements_line channel gtids = record { rank = 3; text = codes "assume statements " ++ (channel ++ (32 ∷ canonical gtids)) }
+
 -- foreign keys aren't looked at
 abbrev pub references_line : List ℕ
 references_line = codes "assume references"
@@ -55,9 +59,14 @@ abbrev pub executed_lines : List ℕ → Gtids → Option Gtids → List Assumed
 executed_lines channel opened None = executed_line channel ∷ []
 executed_lines channel opened (Some executed) = opening_lines channel opened executed
 
--- and by whether damage in its log couldn't be seen
-abbrev pub assumed_of : List ℕ → Gtids → Option Gtids → Bool → List AssumedLine
-assumed_of channel opened executed unchecked = checksums_lines channel unchecked ++ executed_lines channel opened executed
+abbrev pub statements_lines : List ℕ → Gtids → List AssumedLine
+statements_lines channel gtids = if set.is_subset gtids set.empty then [] else statements_line channel gtids ∷ []
+
+-- by whether damage in its log couldn't be seen, by what its server had executed, and by the transactions for whose statements an operator
+-- answers
+abbrev pub assumed_of : List ℕ → Gtids → Option Gtids → Bool → Gtids → List AssumedLine
+assumed_of channel opened executed unchecked statements =
+    (checksums_lines channel unchecked ++ executed_lines channel opened executed) ++ statements_lines channel statements
 
 -- of the head, if its lines of foreign keys were passed over
 abbrev pub references_text : Bool → List ℕ

@@ -23,7 +23,8 @@ pub data BeginsLast (text : List ℕ) : Type 0 where
   Last : (after : List ℕ) → text ≡ done_line ++ after → BeginsLast text
 
 -- A channel's line, that line in the bundle, and what it says was executed; the text behind the line, the text of the journal of the channel's
--- log, and the places of the tables with a key that isn't compared by bytes; and what is assumed and noted of the channel.
+-- log, the places of the tables with a key that isn't compared by bytes, and the transactions for whose statements an operator answers; and
+-- what is assumed and noted of the channel.
 pub record ImportedLog : Type 0 where
   pub line : List ℕ
   pub own : List ℕ
@@ -31,6 +32,7 @@ pub record ImportedLog : Type 0 where
   pub log : List ℕ
   pub journal : List ℕ
   pub varied : List ℕ
+  pub statements : Gtids
   pub assumed : List AssumedLine
   pub notes : List ℕ
 
@@ -44,10 +46,10 @@ journal_text c = with_line_feed c.own ++ c.journal
 abbrev pub IsStart : List ℕ → BundleValue → Type 0
 IsStart plain start = WritesBundleBy (Only Three) (plain ++ done_line) start
 
--- what is assumed of a channel that has this line in its bundle, by what its server had executed, and by where its log comes from; the bundle
--- is the one that the head begins
-abbrev pub assumed_for : Terms → BundleValue → List ℕ → Option Gtids → List AssumedLine
-assumed_for terms start line executed = assumed_of (name_in line) start.opened executed (terms.origin.is_unchecked (name_in line))
+-- what is assumed of a channel that has this line in its bundle, by what its server had executed, by where its log comes from, and by the
+-- transactions for whose statements an operator answers; the bundle is the one that the head begins
+abbrev pub assumed_for : Terms → BundleValue → List ℕ → Option Gtids → Gtids → List AssumedLine
+assumed_for terms start line executed statements = assumed_of (name_in line) start.opened executed (terms.origin.is_unchecked (name_in line)) statements
 
 -- the channel has a log, which is the journal, whose entries change the tables of this head; and the line says what was executed
 pub record IsImported (terms : Terms) (plain : List ℕ) (c : ImportedLog) : Type 0 where
@@ -56,8 +58,8 @@ pub record IsImported (terms : Terms) (plain : List ℕ) (c : ImportedLog) : Typ
   pub channel : is_channel c.line ≡ true
   pub says : HadExecuted terms.grants c.line c.own c.executed
   pub alone : HasNoOwn c.log
-  pub imports : BringsJournal terms start (name_in c.own) c.log c.journal c.varied
-  pub assumed_are : c.assumed ≡ assumed_for terms start c.own c.executed
+  pub imports : BringsJournal terms start (name_in c.own) c.log c.journal c.varied c.statements
+  pub assumed_are : c.assumed ≡ assumed_for terms start c.own c.executed c.statements
   pub notes_are : c.notes ≡ notes_for start c.own c.varied
 
 -- The two texts have the same lines of channels, but for what was executed. What is behind the line of each channel in the one is in the place

@@ -65,9 +65,9 @@ abbrev pub IsFedWith : BundleProgress → BundleProgress → List ℕ → Type 0
 IsFedWith old new bytes = (before : List ℕ) → IsFed old before → IsFed new (before ++ bytes)
 
 -- the journal of a channel's log has come
-pub record FeedsLog (terms : Terms) (start : BundleValue) (name log : List ℕ) (old new : BundleProgress) (varied : List ℕ) : Type 0 where
+pub record FeedsLog (terms : Terms) (start : BundleValue) (name log : List ℕ) (old new : BundleProgress) (varied : List ℕ) (statements : Gtids) : Type 0 where
   pub journal : List ℕ
-  pub imports : BringsJournal terms start name log journal varied
+  pub imports : BringsJournal terms start name log journal varied statements
   pub fed : IsFedWith old new journal
 
 -- this is added to what was executed
@@ -87,12 +87,13 @@ pub record FeedsChannel (terms : Terms) (start : BundleValue) (line log : List �
   pub own : List ℕ
   pub executed : Option Gtids
   pub varied : List ℕ
+  pub statements : Gtids
   pub says : HadExecuted terms.grants line own executed
   pub middle : BundleProgress
   pub fed : IsFedWith (bundle_reading old.reader) middle (with_line_feed own)
-  pub brings : FeedsLog terms start (name_in own) log middle (bundle_reading new.reader) varied
+  pub brings : FeedsLog terms start (name_in own) log middle (bundle_reading new.reader) varied statements
   pub said : IsSaid old new executed
-  pub assumed : IsAssumed old new (assumed_for terms start own executed)
+  pub assumed : IsAssumed old new (assumed_for terms start own executed statements)
   pub noted : IsNoted old new (notes_for start own varied)
   pub same_head : new.passed_over ≡ old.passed_over
 
@@ -104,9 +105,10 @@ IsNotHad name (sources.File fault) (channels.Binlog channel other) = (channel.it
 IsNotHad name (sources.File fault) (channels.Own other) = other ≡ faults.Set Memory
 IsNotHad name _ _ = ⊥
 
--- It is this fault, and if that names a line, no line of the log maps a table that is none of these; or one does, and it is the first.
+-- It is this fault, and if that names a line, no line of the log maps a table that is none of these; or one does, and it is the first. Or
+-- there is no memory.
 abbrev pub IsJournalFault : List Table → List ℕ → JournalFault → ChannelFault → Type 0
-IsJournalFault tables log fault (channels.Own other) = ⊥
+IsJournalFault tables log fault (channels.Own other) = other ≡ faults.Set Memory
 IsJournalFault tables log fault channels.Unknown = ⊥
 IsJournalFault tables log fault (channels.Log other) = ⊥
 IsJournalFault tables log fault (channels.Logless why) = ⊥
@@ -148,7 +150,8 @@ pub data CantTake (grants : Grants) (start : BundleValue) (line before : List �
 pub record CantJoin (terms : Terms) (start : BundleValue) (name log before : List ℕ) (fault : JournalFault) : Type 0 where
   pub journal : List ℕ
   pub varied : List ℕ
-  pub imports : BringsJournal terms start name log journal varied
+  pub statements : Gtids
+  pub imports : BringsJournal terms start name log journal varied statements
   pub stops : StopsAt fault (before ++ journal)
 
 -- why the log of the channel of this name isn't taken after these bytes; or out of memory

@@ -1,9 +1,10 @@
 -- The head of a bundle of logs: what comes before its first line of a channel. Lines `unsupported ..` and `collate ..` may be among those of the
 -- bundle, and its rows are without hidden columns that the latter describe.
-use Rattle.std.specs.Prelude.{◌≡◌, ℕ, ◌+◌, ◌-◌, ◌^◌, min, nat_le, Bool, true, false, not, ◌&&◌, ◌||◌, List, [], ◌∷◌, ◌++◌, drop, codes, nat_eq, is_some, if◌then◌else◌}
+use Rattle.std.specs.Prelude.{◌≡◌, ℕ, ◌+◌, ◌-◌, ◌^◌, min, nat_le, Bool, true, false, not, ◌&&◌, ◌||◌, List, [], ◌∷◌, ◌++◌, drop, codes, nat_eq, Option, Some, None, if◌then◌else◌}
 use Rattle.std.specs.List.{starts_with, list_any, flat_map, AllByRecursion}
 use Rattle.txn_journal.specs.Words.{IsOneLine}
-use Rattle.derived_columns.specs.declared.column.WeighedColumn.{WeighedColumn}
+use Rattle.derived_columns.specs.declared.column.DerivedColumn.{DerivedColumn}
+use Rattle.derived_columns.specs.declared.column.DerivedColumn.TheVariants.{Part, Row}
 use Rattle.binlog_bundle.specs.Lines.{with_line_feed}
 use Rattle.binlog_bundle.specs.Collated.{collated, columns_of, weighed_line}
 use Rattle.binlog_bundle.specs.declared.grants.Grants.{Grants}
@@ -20,7 +21,7 @@ is_unsupported line = starts_with nat_eq line (codes "unsupported ")
 abbrev pub is_foreign_key : List ℕ → Bool
 is_foreign_key line = starts_with nat_eq line (codes "unsupported foreign-key ")
 
--- a line that says by which collation the server compares a column of a table; it is none of the bundle's
+-- a line that says what a hidden column of a table holds; it is none of the bundle's
 abbrev pub is_collate : List ℕ → Bool
 is_collate line = starts_with nat_eq line (codes "collate ")
 
@@ -28,17 +29,23 @@ is_collate line = starts_with nat_eq line (codes "collate ")
 abbrev pub is_passed : List ℕ → Bool
 is_passed line = is_unsupported line || is_collate line
 
--- what a line `unsupported ..` names is a foreign key, and that is granted; a line `collate ..` names a collation whose weights are known
+-- what a line `collate ..` says is taken: that a hidden column holds whole rows only where the opening rows aren't known
+abbrev pub is_taken : Grants → Option DerivedColumn → Bool
+is_taken grants None = false
+is_taken grants (Some (Part part)) = true
+is_taken grants (Some (Row table)) = grants.no_rows
+
+-- what a line `unsupported ..` names is a foreign key, and that is granted; what a line `collate ..` says is taken
 abbrev pub is_granted : Grants → List ℕ → Bool
 is_granted grants line =
     if is_unsupported line then grants.without_foreign_keys && is_foreign_key line
-    else not (is_collate line) || is_some (collated line)
+    else not (is_collate line) || is_taken grants (collated line)
 
 abbrev pub IsGranted : Grants → List ℕ → Type 0
 IsGranted grants line = IsOneLine line × (is_granted grants line ≡ true)
 
 -- the line, if it is one of the bundle; a row has its hidden values behind
-abbrev pub plain_text : List WeighedColumn → List ℕ → List ℕ
+abbrev pub plain_text : List DerivedColumn → List ℕ → List ℕ
 plain_text columns line = if is_passed line then [] else with_line_feed (weighed_line columns line)
 
 -- what a line says is unsupported is a foreign key, and that is granted
@@ -53,7 +60,7 @@ unsupported_in line = if is_unsupported line then drop 12 line else line
 
 -- Each line of the head is the bundle's or granted. The plain head is the head without the lines that aren't the bundle's, and with hidden values
 -- in its rows, those of the columns of the lines `collate ..`; whether there are lines `unsupported ..` is kept.
-pub record IsPlainHead (grants : Grants) (columns : List WeighedColumn) (head plain : List ℕ) (passed_over : Bool) : Type 0 where
+pub record IsPlainHead (grants : Grants) (columns : List DerivedColumn) (head plain : List ℕ) (passed_over : Bool) : Type 0 where
   pub lines : List (List ℕ)
   pub rest : List ℕ
   pub parts : head ≡ flat_map with_line_feed lines ++ rest
@@ -85,9 +92,9 @@ IsNoGrantedKey grants what heads.Memory = Unit {0}
 IsNoGrantedKey grants what (heads.Unsupported other) = (is_granted_key grants what ≡ false) × (other.items ≡ what)
 
 -- why a line `collate ..` is not taken
-abbrev pub IsNoCollate : List ℕ → HeadFault → Type 0
-IsNoCollate line heads.Memory = Unit {0}
-IsNoCollate line (heads.Unsupported what) = (is_some (collated line) ≡ false) × (what.items ≡ line)
+abbrev pub IsNoCollate : Grants → List ℕ → HeadFault → Type 0
+IsNoCollate grants line heads.Memory = Unit {0}
+IsNoCollate grants line (heads.Unsupported what) = (is_taken grants (collated line) ≡ false) × (what.items ≡ line)
 
 -- why a head has no plain one
 abbrev pub IsNoPlainHead : Grants → List ℕ → HeadFault → Type 0

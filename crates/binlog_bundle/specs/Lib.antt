@@ -1,7 +1,10 @@
 pub mod Lines
 pub mod Tables
 pub mod Notes
+pub mod Accepted
 pub mod Assumed
+pub mod Names
+pub mod Comparisons
 pub mod Collated
 pub mod Heads
 pub mod Executed

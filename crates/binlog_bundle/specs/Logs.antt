@@ -4,21 +4,24 @@ use Rattle.gtid_set.specs.Sets.{Gtids}
 use Rattle.gtid_set.specs.declared.fault.SetFault.TheVariants.{Memory}
 use Rattle.journal.specs.declared.Entry.{Entry}
 use Rattle.log_transactions.specs.declared.varied.Varied.{Varied}
-use Rattle.derived_columns.specs.declared.column.WeighedColumn.{WeighedColumn}
+use Rattle.derived_columns.specs.declared.column.DerivedColumn.{DerivedColumn}
 use Rattle.txn_journal.specs.BundleStates.{BundleValue}
 use Rattle.binlog_entries.specs.Imports.{IsWritten, IsNotWritten}
 use Rattle.binlog_entries.specs.Stream.{IsLog, Refuses}
 use Rattle.binlog_entries.specs.declared.fault.ReadFault.TheVariants as reads
 use Rattle.binlog_entries.specs.declared.import.ImportFault.{ImportFault}
 use Rattle.binlog_entries.specs.declared.import.ImportFault.TheVariants as imports
+use Rattle.binlog_bundle.specs.Accepted.{accepted_in}
 use Rattle.binlog_bundle.specs.declared.grants.Grants.{Grants}
 use Rattle.binlog_bundle.specs.declared.fault.SourceFault.{SourceFault}
 use Rattle.binlog_bundle.specs.declared.fault.SourceFault.TheVariants as sources
 
 -- Where the logs of channels come from, by the channel's name and the text behind its line.
 pub record Origin : Type 1 where
-  -- the columns whose weights stand in hidden columns, behind the others in each image
-  pub columns : List WeighedColumn
+  -- what hidden columns hold, behind the others in each image
+  pub columns : List DerivedColumn
+  -- the GTIDs for whose statements an operator answers
+  pub accepted : Gtids
   -- If these GTIDs are in the opening set, the channel has a log, and this is in it: what was executed before, its entries, and the columns
   -- that the server compares otherwise than by their bytes.
   pub is_log : List ℕ → List ℕ → Gtids → Gtids → List Entry → List Varied → Type 0
@@ -38,13 +41,15 @@ terms_of grants origin = record { grants = grants; origin = origin }
 -- ---- journals
 
 -- The channel of this name, with this text behind its line, has a log. This is the text of its journal, whose entries change the tables of the
--- head, and these are the places of the tables with a key that isn't compared by bytes. The head alone begins this bundle.
-pub record BringsJournal (terms : Terms) (start : BundleValue) (name text journal places : List ℕ) : Type 0 where
+-- head, these are the places of the tables with a key that isn't compared by bytes, and the transactions for whose statements an operator
+-- answers. The head alone begins this bundle.
+pub record BringsJournal (terms : Terms) (start : BundleValue) (name text journal places : List ℕ) (statements : Gtids) : Type 0 where
   pub previous : Gtids
   pub entries : List Entry
   pub varied : List Varied
   pub log : terms.origin.is_log name text start.opened previous entries varied
   pub writes : IsWritten start.start.schema terms.grants.bytes previous entries varied journal places
+  pub answered : statements ≡ accepted_in terms.origin.accepted entries
 
 -- the channel has a log, which is not written as a journal
 pub record HasUnwritten (terms : Terms) (start : BundleValue) (name text : List ℕ) (fault : ImportFault) : Type 0 where
@@ -69,9 +74,10 @@ IsNoText opening text (sources.Logless why) = ⊥
 IsNoText opening text (sources.File fault) = ⊥
 
 -- the text behind the line of a channel is that of its log, whatever its name is
-abbrev pub texts : Origin
-texts = record {
+abbrev pub texts : Gtids → Origin
+texts accepted = record {
   columns = [];
+  accepted = accepted;
   is_log = (λ name text opening previous entries varied. IsLog opening text previous entries varied);
   is_unchecked = (λ name. false);
   refuses = (λ name text opening fault. IsNoText opening text fault);

@@ -281,7 +281,8 @@ pub record CantFollow (terms : Terms) (fault : JournalFault) (line : ℕ) (text 
   pub has : HasLog terms line text log written channel own executed start
   pub journal : List ℕ
   pub varied : List ℕ
-  pub imports : BringsJournal terms start (name_in own) log journal varied
+  pub statements : Gtids
+  pub imports : BringsJournal terms start (name_in own) log journal varied statements
   pub stops : StopsAt fault (written ++ (with_line_feed own ++ journal))
 
 -- a line of the journal is refused, and the first line of the log that maps a table which is none of those of the head has this number

@@ -1,10 +1,11 @@
 -- Tables that a log maps.
-use Rattle.std.specs.Prelude.{◌≡◌, ℕ, not, Bool, true, false, List, ◌∷◌, ◌++◌, Option, Some}
+use Rattle.std.specs.Prelude.{◌≡◌, ℕ, not, Bool, true, false, List, ◌∷◌, ◌++◌, Option, Some, None}
 use Rattle.std.specs.List.{list_any, flat_map, AllByRecursion}
 use Rattle.std.specs.Str.{bytes_eq}
 use Rattle.rows.specs.declared.schema.Table.{Table}
 use Rattle.txn_journal.specs.Stream.{next_number}
 use Rattle.txn_journal.specs.Words.{IsOneLine}
+use Rattle.log_transactions.specs.Tables.{table_name}
 use Rattle.binlog_text.specs.Lines.{Content, OfTable}
 use Rattle.binlog_text.specs.Reading.{line_of}
 use Rattle.binlog_bundle.specs.Lines.{with_line_feed, lines_in}
@@ -12,9 +13,14 @@ use Rattle.binlog_bundle.specs.Lines.{with_line_feed, lines_in}
 abbrev pub has_table : List Table → List ℕ → Bool
 has_table tables name = list_any (λ t. bytes_eq t.name name) tables
 
+-- one of these has this name, if there is one
+abbrev pub has_named : List Table → Option (List ℕ) → Bool
+has_named tables None = false
+has_named tables (Some name) = has_table tables name
+
 -- the content of a line maps a table that is none of these
 abbrev pub maps_other : List Table → Option Content → Bool
-maps_other tables (Some (OfTable database table)) = not (has_table tables table)
+maps_other tables (Some (OfTable database table)) = not (has_named tables (table_name database table))
 maps_other tables _ = false
 
 -- a whole line that maps none but these

@@ -1,10 +1,11 @@
 //! What is assumed of a bundle of logs, as lines of the bundle: what was granted of its channels, its head and its rows, what of the opening set
-//! the servers of channels hadn't executed, and which logs may be damaged unseen.
+//! the servers of channels hadn't executed, which logs may be damaged unseen, and for which statements an operator answers.
 ghost use Rattle.std.specs.Prelude.{◌≡◌, ◌++◌, ◌∷◌, [], IfOk, OnOk, IfErr};
 ghost use Rattle.std.specs.FinSet as set;
 ghost use Rattle.gtid_set.specs.Full.{IsFaultOf};
+ghost use Rattle.gtid_set.specs.Runs.{canonical};
 ghost use Rattle.binlog_bundle.specs.Lines.{with_line_feed};
-ghost use Rattle.binlog_bundle.specs.Assumed.{executed_line, checksums_line, opening_line, opening_lines, checksums_lines, executed_lines, assumed_of, references_text, rows_text, text_of, IsAssumeText, IsSaidBefore, IsPartFault};
+ghost use Rattle.binlog_bundle.specs.Assumed.{executed_line, checksums_line, opening_line, statements_line, opening_lines, checksums_lines, executed_lines, statements_lines, assumed_of, references_text, rows_text, text_of, IsAssumeText, IsSaidBefore, IsPartFault};
 
 use crate::grants::Grants;
 use gtid_set::{GtidSet, SetFault};
@@ -14,7 +15,7 @@ use std::alloc::{AllocError, Global};
 /// A line of what is assumed of a channel. Lines come in the order of a bundle's: by their kinds, and within a kind by their bytes.
 #[derive(PartialEq, Eq, PartialOrd, Ord, Drop)]
 pub struct AssumedLine {
-    /// The place of its kind: 0 for `executed`, 1 for `checksums`, 2 for `opening`.
+    /// The place of its kind: 0 for `executed`, 1 for `checksums`, 2 for `opening`, 3 for `statements`.
     pub rank: u32,
     pub text: ByteString,
 }
@@ -49,18 +50,42 @@ fn checksums_line(alloc: Global, channel: &[u8]) -> Result<AssumedLine, AllocErr
     channel_line(alloc, 1, b"assume checksums ", channel)
 }
 
-/// The line that says which part of the opening set the server of a channel hadn't executed.
-fn opening_line(alloc: Global, channel: &[u8], part: &GtidSet) -> Result<AssumedLine, AllocError>
-    ensures { IfOk result (λ line. line ≡ opening_line channel.now part.now) }
+/// The line of this kind, whose last words are the channel and GTIDs of its log.
+fn gtids_line(
+    alloc: Global,
+    rank: u32,
+    kind: &[u8],
+    channel: &[u8],
+    gtids: &GtidSet,
+) -> Result<AssumedLine, AllocError>
+    ensures { IfOk result (λ line. line ≡ record { rank = rank; text = kind.now ++ (channel.now ++ (32 ∷ canonical gtids.now)) }) }
 {
-    let set = part.to_text(alloc)?;
+    let set = gtids.to_text(alloc)?;
     let mut line = Vec::new(alloc);
-    line.extend_from_slice(b"assume opening ")?;
+    line.extend_from_slice(kind)?;
     line.extend_from_slice(channel)?;
     line.push(b' ')?;
     line.extend_from_slice(set.as_bytes())?;
     let text = ByteString::new(line)?;
-    Ok(AssumedLine { rank: 2, text })
+    Ok(AssumedLine { rank, text })
+}
+
+/// The line that says which part of the opening set the server of a channel hadn't executed.
+fn opening_line(alloc: Global, channel: &[u8], part: &GtidSet) -> Result<AssumedLine, AllocError>
+    ensures { IfOk result (λ line. line ≡ opening_line channel.now part.now) }
+{
+    gtids_line(alloc, 2, b"assume opening ", channel, part)
+}
+
+/// The line that says for the statements of which transactions of a channel an operator answers.
+fn statements_line(
+    alloc: Global,
+    channel: &[u8],
+    gtids: &GtidSet,
+) -> Result<AssumedLine, AllocError>
+    ensures { IfOk result (λ line. line ≡ statements_line channel.now gtids.now) }
+{
+    gtids_line(alloc, 3, b"assume statements ", channel, gtids)
 }
 
 /// Adds a line.
@@ -129,8 +154,23 @@ fn assume_checksums(
     Ok(())
 }
 
-/// Adds what is assumed of a channel, by its name, by what its server had executed, and by whether damage in its log couldn't be seen.
-pub fn assume_channel(
+/// Adds the line that says for the statements of which transactions of a channel an operator answers, if there are any.
+fn assume_statements(
+    alloc: Global,
+    lines: &mut Vec<AssumedLine>,
+    channel: &[u8],
+    gtids: &GtidSet,
+) -> Result<(), AllocError>
+    ensures { OnOk result (lines.new.items ≡ lines.old.items ++ statements_lines channel.now gtids.now) }
+{
+    if !gtids.is_subset(&GtidSet::empty(alloc)) {
+        add(lines, statements_line(alloc, channel, gtids)?)?;
+    }
+    Ok(())
+}
+
+/// Adds what is assumed of a channel but of its statements.
+fn assume_log(
     alloc: Global,
     lines: &mut Vec<AssumedLine>,
     channel: &[u8],
@@ -138,13 +178,36 @@ pub fn assume_channel(
     executed: &Option<GtidSet>,
     is_unchecked: bool,
 ) -> Result<(), SetFault>
-    ensures ok { OnOk result (lines.new.items ≡ lines.old.items ++ assumed_of channel.now opened.now executed.now is_unchecked) }
+    ensures ok { OnOk result (lines.new.items ≡ lines.old.items ++ (checksums_lines channel.now is_unchecked ++ executed_lines channel.now opened.now executed.now)) }
     ensures fault { IfErr result (λ fault. IsPartFault fault opened.now executed.now) }
 {
     match assume_checksums(alloc, lines, channel, is_unchecked) {
         Ok(()) => assume_executed(alloc, lines, channel, opened, executed),
         Err(_) => Err(SetFault::Memory),
     }
+}
+
+/// Adds what is assumed of a channel, by its name, by what its server had executed, by whether damage in its log couldn't be seen, and by the
+/// transactions for whose statements an operator answers.
+pub fn assume_channel(
+    alloc: Global,
+    lines: &mut Vec<AssumedLine>,
+    channel: &[u8],
+    opened: &GtidSet,
+    executed: &Option<GtidSet>,
+    is_unchecked: bool,
+    statements: &GtidSet,
+) -> Result<(), SetFault>
+    ensures ok { OnOk result (lines.new.items ≡ lines.old.items
+        ++ assumed_of channel.now opened.now executed.now is_unchecked statements.now) }
+    ensures fault { IfErr result (λ fault. IsPartFault fault opened.now executed.now) }
+{
+    match assume_log(alloc, lines, channel, opened, executed, is_unchecked) {
+        Ok(()) => {}
+        Err(fault) => return Err(fault),
+    }
+    assume_statements(alloc, lines, channel, statements)?;
+    Ok(())
 }
 
 /// Puts a line after a text.

@@ -1,26 +1,29 @@
 //! The channels of a bundle of logs.
 ghost use Rattle.std.specs.Prelude.{◌≡◌, ◌++◌, ◌∷◌, [], ℕ, List, option_map, IfOk, IfErr, OnOk};
 ghost use Rattle.txn_journal.specs.BundleReaders.{bundle_reading};
+ghost use Rattle.binlog_bundle.specs.Accepted.{accepted_in};
 ghost use Rattle.binlog_bundle.specs.Assumed.{assumed_of, IsPartFault};
+ghost use Rattle.binlog_entries.specs.Imports.{IsWritten, IsNotWritten};
 ghost use Rattle.binlog_bundle.specs.Notes.{name_in, notes_for};
 ghost use Rattle.binlog_bundle.specs.Bundles.{BeginsLast};
 ghost use Rattle.binlog_bundle.specs.Logs.{terms_of, BringsJournal};
 ghost use Rattle.binlog_bundle.specs.Refused.{IsFed, IsNoBundle};
 ghost use Rattle.binlog_bundle.specs.Channels.{HasRead, HasCome, FeedsLog, FeedsChannel, IsSaid, IsAssumed, IsNoted, IsWordRead, IsWordRefused, IsNotHad, IsJournalFault, CantFeedLog, CantFeedChannel};
 
+use crate::accepted::accepted_in;
 use crate::assumed::{AssumedLine, assume_channel};
 use crate::executed::{cut_executed, executed_set};
 use crate::fault::{BundleFault, ChannelFault, SourceFault};
 use crate::grants::Grants;
 use crate::lines::{cut_own, is_channel, line_at};
-use crate::logs::Logs;
+use crate::logs::{Logs, ReadChannel};
 use crate::notes::{name_in, note_bytes};
 use crate::reading::{add, add_line};
 use crate::tables::other_table;
-use binlog_entries::{ImportFault, ImportedJournal, cut_line, journal_of};
+use binlog_entries::{ImportFault, ImportedJournal, ReadFault, cut_line, journal_of};
 use gtid_set::{GtidSet, SetFault};
 use rows::Schema;
-use std::alloc::Global;
+use std::alloc::{AllocError, Global};
 use txn_journal::{Bundle, BundleReader, JournalFault};
 
 /// What the head and the channels of a text have made, as far as they have come.
@@ -38,14 +41,17 @@ pub struct ImportProgress {
 }
 
 /// Why the journal that a log describes is not taken: a line of the log that maps a table which the schema has not is named, if there is one.
-fn journal_fault(schema: &Schema, log: &[u8], fault: JournalFault) -> ChannelFault
+fn journal_fault(alloc: Global, schema: &Schema, log: &[u8], fault: JournalFault) -> ChannelFault
     ensures { IsJournalFault schema.now log.now fault result }
 {
     match fault {
-        JournalFault::Line { line: _, cause: _ } => match other_table(schema.tables(), log) {
-            Some(at) => ChannelFault::Table(at),
-            None => ChannelFault::Journal(fault),
-        },
+        JournalFault::Line { line: _, cause: _ } => {
+            match other_table(alloc, schema.tables(), log) {
+                Ok(Some(at)) => ChannelFault::Table(at),
+                Ok(None) => ChannelFault::Journal(fault),
+                Err(AllocError) => ChannelFault::Own(JournalFault::Set(SetFault::Memory)),
+            }
+        }
         _ => ChannelFault::Journal(fault),
     }
 }
@@ -70,6 +76,37 @@ pub struct LogJournal {
     pub journal: ImportedJournal,
     /// Whether damage in the log couldn't be seen.
     pub is_unchecked: bool,
+    /// The transactions for whose statements an operator answers.
+    pub statements: GtidSet,
+}
+
+/// The journal of a log that was read, and the transactions for whose statements an operator answers.
+fn write_journal(
+    alloc: Global,
+    grants: Grants,
+    accepted: &GtidSet,
+    start: &Bundle,
+    read: ReadChannel,
+) -> Result<LogJournal, ImportFault>
+    ensures written { IfOk result (λ j. IsWritten start.now.start.schema grants.bytes read.log.previous read.log.entries.items
+        read.log.varied.items j.journal.text.items j.journal.varied.items) }
+    ensures unchecked { IfOk result (λ j. j.is_unchecked ≡ read.is_unchecked) }
+    ensures statements { IfOk result (λ j. j.statements ≡ accepted_in accepted.now read.log.entries.items) }
+    ensures refused { IfErr result (IsNotWritten start.now.start.schema grants.bytes read.log.previous read.log.entries.items
+        read.log.varied.items) }
+{
+    let journal = match journal_of(alloc, start.schema(), grants.bytes, &read.log) {
+        Ok(journal) => journal,
+        Err(fault) => return Err(fault),
+    };
+    match accepted_in(alloc, accepted, &read.log.entries) {
+        Ok(statements) => Ok(LogJournal {
+            journal,
+            is_unchecked: read.is_unchecked,
+            statements,
+        }),
+        Err(_) => Err(ImportFault::Text(ReadFault::Set(SetFault::Memory))),
+    }
 }
 
 /// The journal of the log of the channel of this name, with this text behind its line.
@@ -81,7 +118,8 @@ fn read_journal<L: Logs>(
     name: &[u8],
     log: &[u8],
 ) -> Result<LogJournal, ChannelFault>
-    ensures found { IfOk result (λ j. BringsJournal (terms_of grants (L.origin logs.now)) start.now name.now log.now j.journal.text.items j.journal.varied.items) }
+    ensures found { IfOk result (λ j. BringsJournal (terms_of grants (L.origin logs.now)) start.now name.now log.now
+        j.journal.text.items j.journal.varied.items j.statements) }
     ensures unchecked { IfOk result (λ j. j.is_unchecked ≡ (L.origin logs.now).is_unchecked name.now) }
     ensures refused { (before : List ℕ) → IfErr result (CantFeedLog (terms_of grants (L.origin logs.now)) start.now name.now log.now before) }
 {
@@ -89,11 +127,8 @@ fn read_journal<L: Logs>(
         Ok(read) => read,
         Err(fault) => return Err(source_fault(alloc, name, fault)),
     };
-    match journal_of(alloc, start.schema(), grants.bytes, &read.log) {
-        Ok(journal) => Ok(LogJournal {
-            journal,
-            is_unchecked: read.is_unchecked,
-        }),
+    match write_journal(alloc, grants, logs.accepted(), start, read) {
+        Ok(journal) => Ok(journal),
         Err(fault) => Err(ChannelFault::Log(fault)),
     }
 }
@@ -108,7 +143,7 @@ fn take_log<L: Logs>(
     name: &[u8],
     log: &[u8],
 ) -> Result<LogJournal, ChannelFault>
-    ensures fed { IfOk result (λ j. FeedsLog (terms_of grants (L.origin logs.now)) start.now name.now log.now (bundle_reading reader.old) (bundle_reading reader.new) j.journal.varied.items) }
+    ensures fed { IfOk result (λ j. FeedsLog (terms_of grants (L.origin logs.now)) start.now name.now log.now (bundle_reading reader.old) (bundle_reading reader.new) j.journal.varied.items j.statements) }
     ensures unchecked { IfOk result (λ j. j.is_unchecked ≡ (L.origin logs.now).is_unchecked name.now) }
     ensures refused { (before : List ℕ) → IsFed (bundle_reading reader.old) before → IfErr result (CantFeedLog (terms_of grants (L.origin logs.now)) start.now name.now log.now before) }
 {
@@ -118,7 +153,7 @@ fn take_log<L: Logs>(
     };
     match add(alloc, reader, &read.journal.text) {
         Ok(()) => Ok(read),
-        Err(fault) => Err(journal_fault(start.schema(), log, fault)),
+        Err(fault) => Err(journal_fault(alloc, start.schema(), log, fault)),
     }
 }
 
@@ -152,7 +187,7 @@ fn keep_channel(
 ) -> Result<(), SetFault>
     ensures reader { bundle_reading progress.new.reader ≡ bundle_reading progress.old.reader }
     ensures said { OnOk result (IsSaid progress.old progress.new executed) }
-    ensures assumed { OnOk result (IsAssumed progress.old progress.new (assumed_of (name_in own.now) start.now.opened executed read.now.is_unchecked)) }
+    ensures assumed { OnOk result (IsAssumed progress.old progress.new (assumed_of (name_in own.now) start.now.opened executed read.now.is_unchecked read.now.statements)) }
     ensures noted { OnOk result (IsNoted progress.old progress.new (notes_for start.now own.now read.now.journal.varied.items)) }
     ensures head { progress.new.passed_over ≡ progress.old.passed_over }
     ensures fault { IfErr result (λ fault. IsPartFault fault start.now.opened executed) }
@@ -165,6 +200,7 @@ fn keep_channel(
         start.opening_set(),
         &executed,
         read.is_unchecked,
+        &read.statements,
     ) {
         Ok(()) => {}
         Err(fault) => return Err(fault),

@@ -1,33 +1,33 @@
-//! Lines of a head that name the collations of columns, and rows with the weights of their texts behind.
+//! Lines of a head that say what hidden columns hold, and rows with their hidden values behind.
 ghost use Rattle.std.specs.Prelude.{◌≡◌, ◌++◌, ◌∷◌, [], ℕ, List, IfOk, OnOk, option_map};
-ghost use Rattle.collations.specs.Finding.{collation_named};
 ghost use Rattle.row_images.specs.Images.{values_text};
 ghost use Rattle.row_images.specs.Words.{count_of};
 ghost use Rattle.binlog_bundle.specs.Lines.{AreLines};
-ghost use Rattle.binlog_bundle.specs.Collated.{column_of, collated, column_list, columns_of, image_line, weighed_words, weighed_row, weighed_line};
+ghost use Rattle.binlog_bundle.specs.Comparisons.{comparison_of};
+ghost use Rattle.binlog_bundle.specs.Collated.{part_of, row_of, column_behind, collated, column_list, columns_of, image_line, weighed_words, weighed_row, weighed_line};
 
+use crate::comparison_words::comparison_of;
 use crate::lines::strip;
+use crate::names::table_name;
 use binlog_entries::cut_line;
-use collations::collation_named;
-use derived_columns::{Derivation, WeighedColumn};
-use log_transactions::table_name;
+use derived_columns::{Derivation, DerivedColumn, KeyPart};
 use row_images::{Row, count, cut};
 use rows::Name;
 use std::alloc::{AllocError, Global};
 
-/// The column of a table that these words name, with its collation.
-fn column_of(
+/// The part of a key that these words name.
+fn part_of(
     alloc: Global,
     table: &[u8],
     column: &[u8],
-    collation: &[u8],
-) -> Result<Option<WeighedColumn>, AllocError>
-    ensures { IfOk result (λ found. found ≡ column_of table.now (count_of column.now) (collation_named collation.now)) }
+    how: &[u8],
+) -> Result<Option<DerivedColumn>, AllocError>
+    ensures { IfOk result (λ found. found ≡ part_of table.now (count_of column.now) (comparison_of how.now)) }
 {
     let Some(column) = count(column) else {
         return Ok(None);
     };
-    let Some(collation) = collation_named(collation) else {
+    let Some(comparison) = comparison_of(how) else {
         return Ok(None);
     };
     let Ok(column) = u32::try_from(column) else {
@@ -36,35 +36,57 @@ fn column_of(
     let Some(table) = table_name(alloc, table)? else {
         return Ok(None);
     };
-    Ok(Some(WeighedColumn {
+    Ok(Some(DerivedColumn::Part(KeyPart {
         table,
         column,
-        collation,
-    }))
+        comparison,
+    })))
 }
 
-/// The column that a line `collate ..` names with its collation.
-pub fn collated(alloc: Global, line: &[u8]) -> Result<Option<WeighedColumn>, AllocError>
+/// The rows of the table of this name, if the word is `row`.
+fn row_of(alloc: Global, table: &[u8], word: &[u8]) -> Result<Option<DerivedColumn>, AllocError>
+    ensures { IfOk result (λ found. found ≡ row_of table.now word.now) }
+{
+    if word != b"row".as_slice() {
+        return Ok(None);
+    }
+    match table_name(alloc, table)? {
+        Some(table) => Ok(Some(DerivedColumn::Row(table))),
+        None => Ok(None),
+    }
+}
+
+/// What a hidden column holds, by the words behind the table: a column and how it is compared, or `row` alone.
+fn column_behind(
+    alloc: Global,
+    table: &[u8],
+    words: &[u8],
+) -> Result<Option<DerivedColumn>, AllocError>
+    ensures { IfOk result (λ found. found ≡ column_behind table.now words.now) }
+{
+    match cut(words) {
+        (column, Some(how)) => part_of(alloc, table, column, how),
+        (word, None) => row_of(alloc, table, word),
+    }
+}
+
+/// What a hidden column holds, by a line `collate ..`.
+pub fn collated(alloc: Global, line: &[u8]) -> Result<Option<DerivedColumn>, AllocError>
     ensures { IfOk result (λ found. found ≡ collated line.now) }
 {
     let Some(words) = cut(line).1 else {
         return Ok(None);
     };
-    let (table, behind) = cut(words);
-    let Some(words) = behind else {
-        return Ok(None);
-    };
-    let (column, behind) = cut(words);
-    let Some(collation) = behind else {
-        return Ok(None);
-    };
-    column_of(alloc, table, column, collation)
+    match cut(words) {
+        (table, Some(words)) => column_behind(alloc, table, words),
+        _ => Ok(None),
+    }
 }
 
-/// Adds the column that a line names, if it is one that does.
+/// Adds what a hidden column holds by a line, if it is one that says so.
 fn add_column(
     alloc: Global,
-    columns: &mut Vec<WeighedColumn>,
+    columns: &mut Vec<DerivedColumn>,
     line: &[u8],
 ) -> Result<(), AllocError>
     ensures { OnOk result (columns.new.items ≡ columns.old.items ++ column_list line.now) }
@@ -78,8 +100,8 @@ fn add_column(
     Ok(())
 }
 
-/// The columns that the lines of a head name with their collations, in order.
-pub fn collated_columns(alloc: Global, head: &[u8]) -> Result<Vec<WeighedColumn>, AllocError>
+/// What hidden columns hold by the lines of a head, in order.
+pub fn collated_columns(alloc: Global, head: &[u8]) -> Result<Vec<DerivedColumn>, AllocError>
     ensures { IfOk result (λ columns. (lines : List (List ℕ)) → AreLines lines head.now → columns.items ≡ columns_of lines) }
 {
     let mut columns = Vec::new(alloc);
@@ -140,7 +162,7 @@ fn weighed_row(
     weighed_words(alloc, derivation, &table, words)
 }
 
-/// Appends a line; a row with its hidden values, if the head names columns.
+/// Appends a line; a row with its hidden values, if the head has such lines.
 pub fn put_weighed(
     alloc: Global,
     text: &mut Vec<u8>,

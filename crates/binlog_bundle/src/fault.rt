@@ -16,9 +16,10 @@ pub enum Logless {
     Missing,
     /// There is text, though logs are read from files.
     Surplus,
-    /// The log says that the server compares this column of this table, counted from 0, otherwise than by the collation that the head names.
+    /// The log says that the server compares this column of this table, counted from 0, otherwise than the head says.
     Collation(Name, u32),
-    /// In the entry of this GTID a value of this column of this table is no text of the column's character set, or is missing.
+    /// In the entry of this GTID a value of this column of this table has no hidden value, as bytes that are no text of its character set, or is
+    /// missing.
     Weights(Gtid, Name, u32),
 }
 

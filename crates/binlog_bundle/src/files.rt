@@ -4,7 +4,7 @@ ghost use Rattle.binlog_bundle.specs.Files.{files_of, files};
 
 use crate::fault::{Logless, SourceFault};
 use crate::logs::{Logs, ReadChannel};
-use binlog_files::read_files;
+use binlog_files::{GivenSets, read_files};
 use gtid_set::GtidSet;
 use std::alloc::Global;
 
@@ -21,6 +21,8 @@ pub struct ChannelFiles {
 #[derive(Drop)]
 pub struct FileLogs<'a> {
     pub channels: &'a [ChannelFiles],
+    /// The GTIDs for whose statements an operator answers.
+    pub accepted: &'a GtidSet,
 }
 
 /// The files of the first channel of this name.
@@ -36,7 +38,11 @@ fn files_of<'a>(channels: &'a [ChannelFiles], name: &[u8]) -> Option<&'a [Vec<u8
 }
 
 impl<'a> Logs for FileLogs<'a> {
-    ghost origin = { λ logs. files logs.channels.now };
+    ghost origin = { λ logs. files logs.accepted.now logs.channels.now };
+
+    fn accepted(&self) -> &GtidSet {
+        self.accepted
+    }
 
     fn read(
         &self,
@@ -51,7 +57,11 @@ impl<'a> Logs for FileLogs<'a> {
         let Some(files) = files_of(self.channels, name) else {
             return Err(SourceFault::Logless(Logless::Missing));
         };
-        match read_files(alloc, opening, files) {
+        let given = GivenSets {
+            opening,
+            accepted: self.accepted,
+        };
+        match read_files(alloc, given, files) {
             Ok(read) => Ok(ReadChannel {
                 log: read.log,
                 is_unchecked: read.is_unchecked,

@@ -1,8 +1,8 @@
-//! The head of a bundle of logs: lines of the bundle, lines that name what it can't hold, and lines that name collations.
-ghost use Rattle.std.specs.Prelude.{◌≡◌, ◌++◌, ◌||◌, ℕ, Bool, List, IsTrue, IfOk, IfErr, OnOk, true, false, is_some};
+//! The head of a bundle of logs: lines of the bundle, lines that name what it can't hold, and lines that say what hidden columns hold.
+ghost use Rattle.std.specs.Prelude.{◌≡◌, ◌++◌, ◌||◌, ℕ, Bool, List, IsTrue, IfOk, IfErr, OnOk, true, false};
 ghost use Rattle.binlog_bundle.specs.Lines.{with_line_feed, AreLines};
 ghost use Rattle.binlog_bundle.specs.Collated.{collated, weighed_line, columns_of};
-ghost use Rattle.binlog_bundle.specs.Heads.{is_unsupported, is_collate, is_passed, is_granted, is_granted_key, plain_text, place_of, IsPlainHead, IsNoPlainHead, IsNotGranted, IsNoGrantedKey, IsNoCollate};
+ghost use Rattle.binlog_bundle.specs.Heads.{is_unsupported, is_collate, is_passed, is_taken, is_granted, is_granted_key, plain_text, place_of, IsPlainHead, IsNoPlainHead, IsNotGranted, IsNoGrantedKey, IsNoCollate};
 ghost use Rattle.binlog_bundle.specs.Refused.{fault_in_head};
 ghost use Rattle.binlog_bundle.specs.declared.head.HeadFault.TheVariants as heads;
 
@@ -10,7 +10,7 @@ use crate::collate_lines::{collated, collated_columns, put_weighed};
 use crate::grants::Grants;
 use crate::lines::strip;
 use binlog_entries::cut_line;
-use derived_columns::Derivation;
+use derived_columns::{Derivation, DerivedColumn};
 use std::alloc::{AllocError, Global};
 use txn_journal::JournalFault;
 
@@ -22,7 +22,7 @@ pub struct PlainHead {
     pub passed_over: bool,
 }
 
-/// A head as that of a bundle, and the columns whose weights stand in hidden columns.
+/// A head as that of a bundle, and what its hidden columns hold.
 #[derive(Drop)]
 pub struct WeighedHead {
     pub plain: PlainHead,
@@ -52,7 +52,7 @@ fn is_unsupported(line: &[u8]) -> bool
     line.starts_with(b"unsupported ")
 }
 
-/// Whether a line names the collation of a column.
+/// Whether a line says what a hidden column holds.
 fn is_collate(line: &[u8]) -> bool
     ensures { result ≡ is_collate line.now }
 {
@@ -73,12 +73,24 @@ fn is_granted_key(grants: Grants, what: &[u8]) -> bool
     grants.without_foreign_keys && what.starts_with(b"foreign-key ")
 }
 
-/// Looks whether a line `collate ..` names a collation whose weights are known.
-fn take_collate(alloc: Global, line: &[u8]) -> Result<(), HeadFault>
-    ensures granted { OnOk result (is_some (collated line.now) ≡ true) }
-    ensures refused { IfErr result (IsNoCollate line.now) }
+/// Whether what a line `collate ..` says is taken: whole rows only where the opening rows aren't known.
+fn is_taken(grants: Grants, column: Option<DerivedColumn>) -> bool
+    ensures { result ≡ is_taken grants column }
 {
-    if collated(alloc, line)?.is_none() {
+    match column {
+        Some(DerivedColumn::Part(_part)) => true,
+        Some(DerivedColumn::Row(_table)) => grants.no_rows,
+        None => false,
+    }
+}
+
+/// Looks whether what a line `collate ..` says is taken.
+fn take_collate(alloc: Global, grants: Grants, line: &[u8]) -> Result<(), HeadFault>
+    ensures granted { OnOk result (is_taken grants (collated line.now) ≡ true) }
+    ensures refused { IfErr result (IsNoCollate grants line.now) }
+{
+    let column = collated(alloc, line)?;
+    if !is_taken(grants, column) {
         return Err(HeadFault::Unsupported(line.to_vec(alloc)?));
     }
     Ok(())
@@ -129,7 +141,7 @@ impl PlainHead {
         ensures refused { IfErr result (IsNotGranted grants line.now) }
     {
         if is_collate(line) {
-            return take_collate(alloc, line);
+            return take_collate(alloc, grants, line);
         }
         Ok(self.take_plain(alloc, derivation, line)?)
     }
@@ -180,7 +192,7 @@ fn plain_head(
     Ok(plain)
 }
 
-/// The head as that of a bundle, and the columns that its lines `collate ..` name.
+/// The head as that of a bundle, and what its lines `collate ..` say.
 pub fn weighed_head(alloc: Global, grants: Grants, head: &[u8]) -> Result<WeighedHead, HeadFault>
     ensures found { IfOk result (λ h. IsPlainHead grants h.derivation head.now h.plain.text.items h.plain.passed_over) }
     ensures refused { IfErr result (λ fault. IsNoPlainHead grants head.now fault) }

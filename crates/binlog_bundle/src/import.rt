@@ -188,29 +188,32 @@ pub fn import_bundle_from<L: Logs>(
     }
 }
 
-/// The bundle that a text describes in which a log's text, as mysqlbinlog prints it, is in the place of each journal.
+/// The bundle that a text describes in which a log's text, as mysqlbinlog prints it, is in the place of each journal, where an operator
+/// answers for the statements of these transactions.
 pub fn import_bundle(
     alloc: Global,
     grants: Grants,
+    accepted: &GtidSet,
     text: &[u8],
 ) -> Result<ImportedBundle, BundleFault>
-    ensures found { IfOk result (λ i. ImportsLogs grants texts text.now i.bundle i.notes.items) }
-    ensures refused { IfErr result (λ fault. IsNoImportOfLogs grants texts fault text.now) }
+    ensures found { IfOk result (λ i. ImportsLogs grants (texts accepted.now) text.now i.bundle i.notes.items) }
+    ensures refused { IfErr result (λ fault. IsNoImportOfLogs grants (texts accepted.now) fault text.now) }
 {
-    import_bundle_from(alloc, grants, &TextLogs, text)
+    import_bundle_from(alloc, grants, &TextLogs { accepted }, text)
 }
 
 /// The bundle that a text describes where the log of each channel is in the binary log files of its name, and nothing in the text is in the
-/// place of its journal.
+/// place of its journal, and an operator answers for the statements of these transactions.
 pub fn import_files(
     alloc: Global,
     grants: Grants,
+    accepted: &GtidSet,
     channels: &[ChannelFiles],
     text: &[u8],
 ) -> Result<ImportedBundle, BundleFault>
     ensures found { IfOk result (λ i.
-        ImportsLogs grants (files channels.now) text.now i.bundle i.notes.items) }
-    ensures refused { IfErr result (λ fault. IsNoImportOfLogs grants (files channels.now) fault text.now) }
+        ImportsLogs grants (files accepted.now channels.now) text.now i.bundle i.notes.items) }
+    ensures refused { IfErr result (λ fault. IsNoImportOfLogs grants (files accepted.now channels.now) fault text.now) }
 {
-    import_bundle_from(alloc, grants, &FileLogs { channels }, text)
+    import_bundle_from(alloc, grants, &FileLogs { channels, accepted }, text)
 }

@@ -20,6 +20,10 @@ pub trait Logs {
     /// Which log a channel has, by its name and the text behind its line, or why it has none.
     ghost origin: { Self → Origin };
 
+    /// The GTIDs for whose statements an operator answers.
+    fn accepted(&self) -> &GtidSet
+        ensures { result.now ≡ (origin self.now).accepted };
+
     /// The log of the channel of this name, with this text behind its line. What comes before the log is in the opening set.
     fn read(
         &self,
@@ -35,10 +39,18 @@ pub trait Logs {
 }
 
 /// The text behind the line of a channel is that of its log, as mysqlbinlog prints it.
-pub struct TextLogs;
+#[derive(Drop)]
+pub struct TextLogs<'a> {
+    /// The GTIDs for whose statements an operator answers. In a text they are refused all the same: only the bundle's assumptions go by the set.
+    pub accepted: &'a GtidSet,
+}
 
-impl Logs for TextLogs {
-    ghost origin = { λ _. texts };
+impl<'a> Logs for TextLogs<'a> {
+    ghost origin = { λ logs. texts logs.accepted.now };
+
+    fn accepted(&self) -> &GtidSet {
+        self.accepted
+    }
 
     fn read(
         &self,

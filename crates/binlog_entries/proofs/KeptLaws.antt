@@ -140,7 +140,7 @@ mark_keeps s t marks.Commit h = (one_told s.log t.log logged.Commits h).1
 mark_keeps s t marks.Committed h = (one_told s.log t.log logged.Commits h).1
 mark_keeps s t marks.Savepoint h = (one_told s.log t.log logged.Savepoint h).1
 mark_keeps s t marks.Closed h = (one_told s.log t.log logged.Ends h).1
-mark_keeps s t marks.Flush h = (one_told s.log t.log logged.Flushes h).1
+mark_keeps s t marks.Maintenance h = (one_told s.log t.log logged.Maintains h).1
 mark_keeps s t _ h = none_told s.log t.log h
 
 head_keeps : (s t : Standing) (event : LogEvent) → transactions.runs s.log (events_of (context_of s) (OfHead event)) ≡ Ok t.log → kept t ≡ kept_by s (OfHead event)

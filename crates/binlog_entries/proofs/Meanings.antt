@@ -15,6 +15,7 @@ use Rattle.log_transactions.specs.Machine.{LogState, is_idle, is_begun, unless, 
 use Rattle.log_transactions.specs.Machine as transactions
 use Rattle.log_transactions.specs.Meaning.{EventMeaning, Of, Changed, Committed, AreOfLog}
 use Rattle.log_transactions.specs.Meaning as denoted
+use Rattle.log_transactions.specs.Tables.{joined_name}
 use Rattle.log_transactions.specs.declared.fault.EventRefusal.TheVariants as logs
 use Rattle.log_transactions.proofs.EventLaws.{events_told}
 use Rattle.binlog_text.specs.declared.types.ColumnType.{ColumnType}
@@ -81,10 +82,11 @@ table_law : (s t : Standing) (database table : List ℕ) → Sound s → takes s
 unfolding table_line
 table_law s t database table sound at h =
     let e : Event = logged.Maps database table in
-    let a = bind_ok (tell s e) (λ u. Ok (with_mapped u table)) t h in
+    let name = joined_name database table in
+    let a = bind_ok (tell s e) (λ u. Ok (with_mapped u name)) t h in
     let q = told_ok s a.0 e a.1 in
-    subst (λ (u : Standing). Tells s (OfTable database table) (record u { body = bodies.TableMap })) (ap (λ (u : Standing). with_mapped u table) q.1 ∙ same_ok _ t a.2)
-    (plain s (record (with_mapped s table) { body = bodies.TableMap; log = behind s.log e }) (OfTable database table) sound (tablemap_quiet s.body at).0 refl (λ c. never c) (one_event s.log e q.0) refl refl)
+    subst (λ (u : Standing). Tells s (OfTable database table) (record u { body = bodies.TableMap })) (ap (λ (u : Standing). with_mapped u name) q.1 ∙ same_ok _ t a.2)
+    (plain s (record (with_mapped s name) { body = bodies.TableMap; log = behind s.log e }) (OfTable database table) sound (tablemap_quiet s.body at).0 refl (λ c. never c) (one_event s.log e q.0) refl refl)
 
 pub added_is : (s t : Standing) (o : Option Table) (first : Bool) (type : ColumnType) → add_column s o first type ≡ Ok t → (x : Table) × (o ≡ Some x) × (record s { mapping = Some (record { name = x.name; columns = x.columns ++ type ∷ [] }) } ≡ t)
 added_is s t None first type e = absurd cc
@@ -182,7 +184,7 @@ mark_law s t marks.Set sound at h = set_law s t sound (rows_only s.body at) h
 mark_law s t marks.Begin sound at h = statement_law s t marks.Begin logged.Begins sound at refl refl refl h
 mark_law s t marks.Commit sound at h = statement_law s t marks.Commit logged.Commits sound at refl refl refl h
 mark_law s t marks.Committed sound at h = commits_law s t sound at h
-mark_law s t marks.Flush sound at h = statement_law s t marks.Flush logged.Flushes sound at refl refl refl h
+mark_law s t marks.Maintenance sound at h = statement_law s t marks.Maintenance logged.Maintains sound at refl refl refl h
 mark_law s t marks.Extra sound at h = extra_law s t sound h
 mark_law s t marks.Savepoint sound at h = statement_law s t marks.Savepoint logged.Savepoint sound at refl refl refl h
 mark_law s t marks.Closed sound at h = end_law s t sound at h
@@ -261,7 +263,7 @@ event_means : (e : Event) → flat_map meaning_spelled (denoted.means e) ≡ eve
 event_means (logged.Names gtid) = refl
 event_means (logged.Row change) = append-nil (meaning_of_change change)
 event_means logged.Commits = refl
-event_means logged.Flushes = refl
+event_means logged.Maintains = refl
 event_means _ = refl
 
 events_mean : (es : List Event) → flat_map meaning_spelled (denoted.meaning es) ≡ events_spelled es

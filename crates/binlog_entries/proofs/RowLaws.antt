@@ -4,9 +4,9 @@ use Rattle.std.specs.Prelude.{◌&&◌, is_some}
 use Rattle.std.proofs.lemmas.Bool.{eqb-true}
 use Rattle.std.proofs.lemmas.Option.{same_Some}
 use Rattle.row_images.specs.declared.value.Value.{Value}
-use Rattle.rows.specs.Names.{is_short_name}
+use Rattle.rows.specs.Names.{is_name}
 use Rattle.log_transactions.specs.Machine.{has_table}
-use Rattle.log_transactions.specs.Tables.{table_name}
+use Rattle.log_transactions.specs.Tables.{joined_name, table_name}
 use Rattle.binlog_text.specs.declared.types.ColumnType.{ColumnType}
 use Rattle.binlog_text.specs.Values.{value_at}
 use Rattle.binlog_text.specs.declared.lines.Mark.TheVariants as marks
@@ -205,22 +205,23 @@ unless_not false e r x h = absurd cc
 abbrev pub with_row : Standing → List ℕ → RowOperation → Standing
 with_row s table operation = record s { row = Some table; operation = operation; part = parts.Head }
 
-pub opened_is : (s t : Standing) (operation : RowOperation) (database : List ℕ) (o : Option (List ℕ)) → open_row s operation database o ≡ Ok t → (table : List ℕ) × (o ≡ Some table) × (with_row s table operation ≡ t)
-opened_is s t operation database None e = absurd cc
-opened_is s t operation database (Some table) e = (table, refl, (if_ok (has_table s.log database table) (with_row s table operation) refusals.Table t e).1)
+pub opened_is : (s t : Standing) (operation : RowOperation) (o : Option (List ℕ)) → open_row s operation o ≡ Ok t → (table : List ℕ) × (o ≡ Some table) × (with_row s table operation ≡ t)
+opened_is s t operation None e = absurd cc
+opened_is s t operation (Some table) e = (table, refl, (if_ok (has_table s.log table) (with_row s table operation) refusals.Table t e).1)
 
 pub row_law : (s t : Standing) (operation : RowOperation) (database table : List ℕ) → Sound s → is_rows s.body ≡ true → row_line s operation database table ≡ Ok t → Tells s (OfRow operation database table) (row_taken t)
 unfolding row_line
 row_law s t operation database table sound rows h =
     let a = bind_ok (finish_row s) (λ u. begin_row u operation database table) t h in
     let f = finish_law s a.0 sound a.1 in
-    let o = opened_is a.0 t operation database (table_name table) a.2 in
-    let name = named_is (is_short_name table) table o.0 o.1 in
-    let is : with_row (bare s a.0.log) table operation ≡ t =
+    let joined = joined_name database table in
+    let o = opened_is a.0 t operation (table_name database table) a.2 in
+    let name = named_is (is_name joined) joined o.0 o.1 in
+    let is : with_row (bare s a.0.log) joined operation ≡ t =
     ap (λ (xs : List ℕ). with_row (bare s a.0.log) xs operation) name ∙ ap (λ (u : Standing). with_row u o.0 operation) (sym f.is) ∙ o.2 in
     subst (λ (u : Standing). Tells s (OfRow operation database table) (row_taken u)) is (record {
       events = f.run;
-      spells = ap (λ (xs : List Meaning). xs ++ Row operation table ∷ []) f.spells;
+      spells = ap (λ (xs : List Meaning). xs ++ Row operation joined ∷ []) f.spells;
       context = refl;
-      sound = sound_row (with_row (bare s a.0.log) table operation) rows (refl, refl);
+      sound = sound_row (with_row (bare s a.0.log) joined operation) rows (refl, refl);
     })

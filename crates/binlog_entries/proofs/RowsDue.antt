@@ -78,7 +78,7 @@ mark_owes s u marks.Closed ls none due at h next = never (only_rows s.body kinds
 mark_owes s u marks.Comment ls none due at h next = never (only_rows s.body kinds.Comment due at)
 mark_owes s u marks.Setting ls none due at h next = never (only_rows s.body kinds.Setting due at)
 mark_owes s u marks.Frame ls none due at h next = never (only_rows s.body kinds.Frame due at)
-mark_owes s u marks.Flush ls none due at h next = never (only_rows s.body kinds.Statement due at)
+mark_owes s u marks.Maintenance ls none due at h next = never (only_rows s.body kinds.Statement due at)
 
 line_owes : (s u : Standing) (l : Content) (ls : List Content) → s.row ≡ None → is_row_due s.body ≡ true → takes s.body (kind_of l) ≡ true → take_content s l ≡ Ok u → Owes s u l ls
 unfolding value_line

@@ -97,7 +97,7 @@ abbrev pub event_spelled : Event → List Meaning
 event_spelled (logged.Names gtid) = Names (gtid_text gtid) ∷ []
 event_spelled (logged.Row change) = meaning_of_change change
 event_spelled logged.Commits = Commits ∷ []
-event_spelled logged.Flushes = Commits ∷ []
+event_spelled logged.Maintains = Commits ∷ []
 event_spelled _ = []
 
 abbrev pub events_spelled : List Event → List Meaning

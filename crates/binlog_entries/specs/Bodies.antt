@@ -26,7 +26,7 @@ kind_of_mark marks.Comment = kinds.Comment
 kind_of_mark marks.Setting = kinds.Setting
 kind_of_mark marks.Frame = kinds.Frame
 kind_of_mark marks.Extra = kinds.Extra
-kind_of_mark marks.Flush = kinds.Statement
+kind_of_mark marks.Maintenance = kinds.Statement
 
 abbrev pub kind_of : Content → BodyKind
 kind_of (OfMark mark) = kind_of_mark mark

@@ -14,7 +14,7 @@ use Rattle.log_transactions.specs.Events.{Event}
 use Rattle.log_transactions.specs.Events as logged
 use Rattle.log_transactions.specs.Machine.{LogState, OfJoined, has_table}
 use Rattle.log_transactions.specs.Machine as transactions
-use Rattle.log_transactions.specs.Tables.{table_name}
+use Rattle.log_transactions.specs.Tables.{joined_name, table_name}
 use Rattle.log_transactions.specs.declared.fault.EventRefusal.{EventRefusal}
 use Rattle.binlog_text.specs.declared.types.ColumnType.{ColumnType}
 use Rattle.binlog_text.specs.Types.{compares_bytes, collation_in, parse_type}
@@ -131,14 +131,14 @@ finish_by s (Some table) = finish_in s table (find_table table s.tables)
 unfoldable pub finish_row : Standing → Result Standing EntryRefusal
 finish_row s = finish_by s s.row
 
-abbrev pub open_row : Standing → RowOperation → List ℕ → Option (List ℕ) → Result Standing EntryRefusal
-open_row s operation database None = Err refusals.Table
-open_row s operation database (Some table) =
-    if has_table s.log database table then Ok (record s { row = Some table; operation = operation; part = parts.Head })
+abbrev pub open_row : Standing → RowOperation → Option (List ℕ) → Result Standing EntryRefusal
+open_row s operation None = Err refusals.Table
+open_row s operation (Some table) =
+    if has_table s.log table then Ok (record s { row = Some table; operation = operation; part = parts.Head })
     else Err refusals.Table
 
 abbrev pub begin_row : Standing → RowOperation → List ℕ → List ℕ → Result Standing EntryRefusal
-begin_row s operation database table = open_row s operation database (table_name table)
+begin_row s operation database table = open_row s operation (table_name database table)
 
 unfoldable pub row_line : Standing → RowOperation → List ℕ → List ℕ → Result Standing EntryRefusal
 row_line s operation database table = finish_row s >>= λ t. begin_row t operation database table
@@ -195,7 +195,7 @@ abbrev pub with_mapped : Standing → List ℕ → Standing
 with_mapped s table = record s { is_over = false; mapping = Some (record { name = table; columns = [] }); tables = if s.is_over then [] else s.tables }
 
 unfoldable pub table_line : Standing → List ℕ → List ℕ → Result Standing EntryRefusal
-table_line s database table = tell s (logged.Maps database table) >>= λ t. Ok (with_mapped t table)
+table_line s database table = tell s (logged.Maps database table) >>= λ t. Ok (with_mapped t (joined_name database table))
 
 abbrev pub same_bool : Bool → Bool → Bool
 same_bool true b = b
@@ -251,7 +251,7 @@ mark_line s marks.Comment = Ok s
 mark_line s marks.Setting = Ok s
 mark_line s marks.Frame = Ok s
 mark_line s marks.Extra = Ok s
-mark_line s marks.Flush = tell s logged.Flushes
+mark_line s marks.Maintenance = tell s logged.Maintains
 
 abbrev pub take_content : Standing → Content → Result Standing EntryRefusal
 take_content s (OfMark mark) = mark_line s mark
@@ -304,7 +304,7 @@ IsMarkFault marks.Place fault = fault ≡ Memory
 IsMarkFault marks.Automatic fault = fault ≡ Memory
 IsMarkFault marks.Commit fault = fault ≡ Memory
 IsMarkFault marks.Committed fault = fault ≡ Memory
-IsMarkFault marks.Flush fault = fault ≡ Memory
+IsMarkFault marks.Maintenance fault = fault ≡ Memory
 IsMarkFault _ fault = ⊥
 
 abbrev pub IsContentFault : Standing → Content → SetFault → Type 0

@@ -21,6 +21,7 @@ use Rattle.binlog_text.specs.declared.lines.RowOperation.{RowOperation}
 use Rattle.binlog_text.specs.declared.lines.RowOperation.TheVariants as operations
 use Rattle.binlog_text.specs.Lines.{Content, OfMark, OfHead, OfTable, OfColumn, OfGtid, OfSources, OfRow, OfValue}
 use Rattle.binlog_entries.specs.Tables.{Table, with_mapping, type_at}
+use Rattle.log_transactions.specs.Tables.{joined_name}
 use Rattle.log_transactions.specs.Files.{next_file, has_come, come_behind}
 use Rattle.binlog_entries.specs.Varied.{varied_behind}
 use Rattle.log_transactions.specs.declared.varied.Varied.{Varied}
@@ -30,7 +31,7 @@ use Rattle.binlog_entries.specs.declared.draft.RowPart.{RowPart}
 use Rattle.binlog_entries.specs.declared.draft.RowPart.TheVariants as parts
 use Rattle.binlog_entries.specs.Machine.{Standing, runs, start, is_closed}
 
--- what a line means for transactions: a GTID, a row of a table, the images of a row with the values of their columns, and the end
+-- what a line means for transactions: a GTID, a row of a table by its name, the images of a row with the values of their columns, and the end
 pub data Meaning : Type 0 where
   Names : List ℕ → Meaning
   Row : RowOperation → List ℕ → Meaning
@@ -66,7 +67,7 @@ mark_means marks.Where = Before ∷ []
 mark_means marks.Set = After ∷ []
 mark_means marks.Commit = Commits ∷ []
 mark_means marks.Committed = Commits ∷ []
-mark_means marks.Flush = Commits ∷ []
+mark_means marks.Maintenance = Commits ∷ []
 mark_means marks.Place = []
 mark_means marks.Begin = []
 mark_means marks.Ended = []
@@ -86,7 +87,7 @@ means c (OfTable database table) = []
 means c (OfColumn column) = []
 means c (OfGtid gtid) = Names gtid ∷ []
 means c (OfSources sources more) = []
-means c (OfRow operation database table) = Row operation table ∷ []
+means c (OfRow operation database table) = Row operation (joined_name database table) ∷ []
 means c (OfValue n text) = Holds n (shown_in (type_at c.row c.tables (n - 1)) text) ∷ []
 
 abbrev pub behind_place : Context → Context
@@ -113,7 +114,7 @@ behind_mark c marks.Comment = c
 behind_mark c marks.Setting = c
 behind_mark c marks.Frame = c
 behind_mark c marks.Extra = c
-behind_mark c marks.Flush = c
+behind_mark c marks.Maintenance = c
 
 abbrev pub behind_head : Context → LogEvent → Context
 behind_head c (events.Rows operation ends) = record c { is_over = true }
@@ -136,11 +137,11 @@ with_value c _ _ = c
 abbrev pub context_behind : Context → Content → Context
 context_behind c (OfMark mark) = behind_mark c mark
 context_behind c (OfHead event) = behind_head c event
-context_behind c (OfTable database table) = record c { is_over = false; mapping = Some (record { name = table; columns = [] }); tables = if c.is_over then [] else c.tables }
+context_behind c (OfTable database table) = record c { is_over = false; mapping = Some (record { name = joined_name database table; columns = [] }); tables = if c.is_over then [] else c.tables }
 context_behind c (OfColumn column) = record c { mapping = with_column c.mapping (parse_type column.column_type) }
 context_behind c (OfGtid gtid) = c
 context_behind c (OfSources sources more) = c
-context_behind c (OfRow operation database table) = record c { row = Some table; operation = operation; part = parts.Head; before = []; after = [] }
+context_behind c (OfRow operation database table) = record c { row = Some (joined_name database table); operation = operation; part = parts.Head; before = []; after = [] }
 context_behind c (OfValue n text) = with_value c c.part (shown_in (type_at c.row c.tables (n - 1)) text)
 
 -- what lines mean, in order

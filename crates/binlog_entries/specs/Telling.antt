@@ -35,7 +35,7 @@ mark_events c marks.Begin = logged.Begins ∷ []
 mark_events c marks.Commit = logged.Commits ∷ []
 mark_events c marks.Committed = logged.Commits ∷ []
 mark_events c marks.Savepoint = logged.Savepoint ∷ []
-mark_events c marks.Flush = logged.Flushes ∷ []
+mark_events c marks.Maintenance = logged.Maintains ∷ []
 mark_events c marks.Closed = logged.Ends ∷ []
 mark_events c _ = []
 

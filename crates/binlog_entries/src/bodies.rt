@@ -73,7 +73,7 @@ fn kind_of_mark(mark: Mark) -> BodyKind
         Mark::Setting => BodyKind::Setting,
         Mark::Frame => BodyKind::Frame,
         Mark::Extra => BodyKind::Extra,
-        Mark::Flush => BodyKind::Statement,
+        Mark::Maintenance => BodyKind::Statement,
     }
 }
 

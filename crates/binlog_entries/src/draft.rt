@@ -224,10 +224,10 @@ impl LogDraft {
     ) -> Result<(), EntryFault>
         ensures { TakesOrMemory result (begin_row (standing self.old) operation database.now table.now) (standing self.new) }
     {
-        let Some(name) = table_name(alloc, table)? else {
+        let Some(name) = table_name(alloc, database, table)? else {
             return Err(EntryFault::Refused(EntryRefusal::Table));
         };
-        if !self.log.has_table(database, &name) {
+        if !self.log.has_table(&name) {
             return Err(EntryFault::Refused(EntryRefusal::Table));
         }
         self.row = Some(name);
@@ -316,7 +316,7 @@ impl LogDraft {
             Mark::Set => self.set_line(),
             Mark::Begin => Ok(self.log.begin()?),
             Mark::Commit | Mark::Committed => Ok(self.log.commit(alloc)?),
-            Mark::Flush => Ok(self.log.flush(alloc)?),
+            Mark::Maintenance => Ok(self.log.maintain(alloc)?),
             Mark::Savepoint => Ok(self.log.take_savepoint()?),
             Mark::Closed => Ok(self.log.end_file()?),
             Mark::Ended | Mark::Empty | Mark::Comment | Mark::Setting | Mark::Frame | Mark::Extra =>

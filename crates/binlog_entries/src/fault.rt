@@ -21,7 +21,7 @@ pub enum EntryRefusal {
     Gtid,
     /// A transaction's line outside of one, a second beginning, or an end within a statement of rows.
     Transaction,
-    /// A table that no line maps, a name that is none of ours, or a second database.
+    /// A table that no line maps, or one without a name.
     Table,
     /// A type whose values are not printed whole.
     Type,

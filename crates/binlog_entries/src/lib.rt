@@ -17,9 +17,9 @@
 //! of the first file and the GTIDs that came (else a file was left out). A previous set that comes after a GTID is one of a later file.
 //!
 //! Rows are taken in the bodies of rows events alone, so what a statement's text prints is never taken for rows
-//! (`statements_hold_no_rows`). Statements, DDL, XA and partial row images are refused; a statement that flushes is an entry without
-//! changes. A log is of one database. Columns that the server compares otherwise than by bytes are known from the log. A key with such a
-//! column is refused, by its table and column, unless the caller asks for bytes: then the tables with such keys are listed.
+//! (`statements_hold_no_rows`). Statements, DDL, XA and partial row images are refused; a statement of maintenance is an entry without
+//! changes. Columns that the server compares otherwise than by bytes are known from the log. A key with such a column is refused, by its
+//! table and column, unless the caller asks for bytes: then the tables with such keys are listed.
 //! An entry that passes a limit of the journal's format is refused by that limit (`Limit`).
 //!
 //! Not proved: that what mysqlbinlog prints is what the server logged, and what was executed before the first file. Run by hand: 27 MB of

@@ -5,12 +5,12 @@ use Rattle.std.specs.Global.{Global}
 use Rattle.std.specs.List.{list_any}
 use Rattle.std.proofs.lemmas.List.{take_more, take-append-drop, drop_more, map-append, length-map, length-take-le, take_all}
 use Rattle.std.proofs.lemmas.List.Folds.{list_any-append}
-use Rattle.gtid_set.specs.Sets.{Gtids}
 use Rattle.binlog_frames.specs.Spelling.{Framed, tail_len}
 use Rattle.binlog_frames.specs.Reading.{is_checked}
 use Rattle.binlog_frames.specs.Standing.{Standing, front_at, opening_at, before, tail_of, tail_from, passed, passed_from, Follows}
 use Rattle.binlog_frames.specs.declared.stage.FileStage.{FileStage}
 use Rattle.binlog_frames.specs.declared.stage.FileStage.TheVariants.{Later}
+use Rattle.binlog_files.specs.Given.{Given}
 use Rattle.binlog_files.specs.Files.{HasCome, TakesOn, StopsOn}
 use Rattle.binlog_files.specs.Moved.{files_state}
 use Rattle.binlog_files.specs.Taking.{FilesState, start, take_events}
@@ -43,25 +43,25 @@ unchecked_at bytes (d ∷ es) s f none =
 
 -- ---- a file
 
-pub file_taken : (opening : Gtids) (old mid new : LogFiles) (bytes : List ℕ) (b : Bool) → TakesOn opening old mid bytes → b ≡ (tail_of mid.frames == 0)
-    → EndsFile mid new → is_unlisted bytes ≡ false → TakesWhole opening old bytes new b
-file_taken opening old mid new bytes b on is ends listed = λ from h.
-    let come : HasCome opening from bytes mid = on from [] h in
+pub file_taken : (given : Given) (old mid new : LogFiles) (bytes : List ℕ) (b : Bool) → TakesOn given old mid bytes → b ≡ (tail_of mid.frames == 0)
+    → EndsFile mid new → is_unlisted bytes ≡ false → TakesWhole given old bytes new b
+file_taken given old mid new bytes b on is ends listed = λ from h.
+    let come : HasCome given from bytes mid = on from [] h in
     record {
-      ended = ends opening from bytes come;
+      ended = ends given from bytes come;
       begins = listed;
       checks = is ∙ unchecked_at bytes come.0.events mid.frames come.0.follows come.1;
     }
 
-pub fed_stops : (opening : Gtids) (old : LogFiles) (bytes : List ℕ) (fault : FilesFault) → StopsOn opening old bytes fault → StopsWhole opening old bytes fault
-fed_stops opening old bytes fault stops = λ from h. inl (stops from [] h)
+pub fed_stops : (given : Given) (old : LogFiles) (bytes : List ℕ) (fault : FilesFault) → StopsOn given old bytes fault → StopsWhole given old bytes fault
+fed_stops given old bytes fault stops = λ from h. inl (stops from [] h)
 
-pub end_stops : (opening : Gtids) (old mid : LogFiles) (bytes : List ℕ) (fault : FilesFault) → TakesOn opening old mid bytes → StopsFile mid fault
-    → StopsWhole opening old bytes fault
-end_stops opening old mid bytes fault on stops = λ from h. inr (inl (stops opening from bytes (on from [] h)))
+pub end_stops : (given : Given) (old mid : LogFiles) (bytes : List ℕ) (fault : FilesFault) → TakesOn given old mid bytes → StopsFile mid fault
+    → StopsWhole given old bytes fault
+end_stops given old mid bytes fault on stops = λ from h. inr (inl (stops given from bytes (on from [] h)))
 
-pub unlisted_stops : (opening : Gtids) (old : LogFiles) (bytes : List ℕ) (fault : FilesFault) → IsUnlisted bytes fault → StopsWhole opening old bytes fault
-unlisted_stops opening old bytes fault unlisted = λ from h. inr (inr unlisted)
+pub unlisted_stops : (given : Given) (old : LogFiles) (bytes : List ℕ) (fault : FilesFault) → IsUnlisted bytes fault → StopsWhole given old bytes fault
+unlisted_stops given old bytes fault unlisted = λ from h. inr (inr unlisted)
 
 -- ---- files
 
@@ -69,20 +69,20 @@ nothing_there : front_at (before []) ≡ Ok None
 unfolding opening_at
 nothing_there = refl
 
-none_yet : (opening : Gtids) (from to : FilesState) (s : Standing) (es : List Framed) → Follows (before []) es s → take_events opening from es ≡ Ok to → from ≡ to
-none_yet opening from to s [] f taken = cc
-none_yet opening from to s (d ∷ es) f taken =
+none_yet : (given : Given) (from to : FilesState) (s : Standing) (es : List Framed) → Follows (before []) es s → take_events given from es ≡ Ok to → from ≡ to
+none_yet given from to s [] f taken = cc
+none_yet given from to s (d ∷ es) f taken =
     let there : front_at (before []) ≡ Ok (Some d) = f.0 in
     let nothing = nothing_there in
     absurd cc
 
-pub no_files : (opening : Gtids) (l : LogFiles) → HasCome opening (start opening) [] l → HaveFiles opening [] l false
-no_files opening l h =
-    let same = none_yet opening (start opening) (files_state l.taken) l.frames h.0.events h.0.follows h.0.taken in
+pub no_files : (given : Given) (l : LogFiles) → HasCome given (start given.opening) [] l → HaveFiles given [] l false
+no_files given l h =
+    let same = none_yet given (start given.opening) (files_state l.taken) l.frames h.0.events h.0.follows h.0.taken in
     record {
       tells = [];
-      taken = subst (λ (x : FilesState). TakesFiles opening (start opening) [] [] x) same NoFile;
-      come = subst (λ (x : FilesState). HasCome opening x [] l) same h;
+      taken = subst (λ (x : FilesState). TakesFiles given (start given.opening) [] [] x) same NoFile;
+      come = subst (λ (x : FilesState). HasCome given x [] l) same h;
       begin = refl;
       checks = refl;
     }
@@ -91,9 +91,9 @@ or_none : (b : Bool) → (b || false) ≡ b
 or_none true = refl
 or_none false = refl
 
-with_file : (opening : Gtids) (files : List (List ℕ)) (bytes : List ℕ) (old new : LogFiles) (b c : Bool) → HaveFiles opening files old b
-    → TakesWhole opening old bytes new c → HaveFiles opening (files ++ bytes ∷ []) new (b || c)
-with_file opening files bytes old new b c h takes =
+with_file : (given : Given) (files : List (List ℕ)) (bytes : List ℕ) (old new : LogFiles) (b c : Bool) → HaveFiles given files old b
+    → TakesWhole given old bytes new c → HaveFiles given (files ++ bytes ∷ []) new (b || c)
+with_file given files bytes old new b c h takes =
     let f = takes (files_state old.taken) h.come in
     record {
       tells = h.tells ++ f.ended.tells;
@@ -123,13 +123,13 @@ next_files files i x bytes lt x_is is =
     ∙ map-append (λ (v : Vec ℕ Global). v.items) (take i files) (get_or files i x ∷ [])
     ∙ ap (λ y. bytes_of (take i files) ++ y ∷ []) (file_bytes files i x bytes x_is is)
 
-pub have_next : (opening : Gtids) (files : List (Vec ℕ Global)) (i : ℕ) (x : Vec ℕ Global) (bytes : List ℕ) (old new : LogFiles) (a b c : Bool)
-    → i < length files → x ≡ get_or files i x → bytes ≡ x.items → HaveFiles opening (bytes_of (take i files)) old b → TakesWhole opening old bytes new c
-    → a ≡ (b || c) → HaveFiles opening (bytes_of (take (i + 1) files)) new a
-have_next opening files i x bytes old new a b c lt x_is is h takes a_is =
-    subst (λ (fs : List (List ℕ)). HaveFiles opening fs new a) (sym (next_files files i x bytes lt x_is is))
-    (subst (λ (d : Bool). HaveFiles opening (bytes_of (take i files) ++ bytes ∷ []) new d) (sym a_is)
-    (with_file opening (bytes_of (take i files)) bytes old new b c h takes))
+pub have_next : (given : Given) (files : List (Vec ℕ Global)) (i : ℕ) (x : Vec ℕ Global) (bytes : List ℕ) (old new : LogFiles) (a b c : Bool)
+    → i < length files → x ≡ get_or files i x → bytes ≡ x.items → HaveFiles given (bytes_of (take i files)) old b → TakesWhole given old bytes new c
+    → a ≡ (b || c) → HaveFiles given (bytes_of (take (i + 1) files)) new a
+have_next given files i x bytes old new a b c lt x_is is h takes a_is =
+    subst (λ (fs : List (List ℕ)). HaveFiles given fs new a) (sym (next_files files i x bytes lt x_is is))
+    (subst (λ (d : Bool). HaveFiles given (bytes_of (take i files) ++ bytes ∷ []) new d) (sym a_is)
+    (with_file given (bytes_of (take i files)) bytes old new b c h takes))
 
 parts_at : (files : List (Vec ℕ Global)) (i : ℕ) (x : Vec ℕ Global) (bytes : List ℕ) → i < length files → x ≡ get_or files i x → bytes ≡ x.items
     → bytes_of files ≡ bytes_of (take i files) ++ bytes ∷ bytes_of (drop (i + 1) files)
@@ -139,10 +139,10 @@ parts_at files i x bytes lt x_is is =
     ∙ ap (λ xs. bytes_of (take i files) ++ bytes_of xs) (drop_more files i x lt)
     ∙ ap (λ y. bytes_of (take i files) ++ y ∷ bytes_of (drop (i + 1) files)) (file_bytes files i x bytes x_is is)
 
-pub stops_at : (opening : Gtids) (files : List (Vec ℕ Global)) (i : ℕ) (x : Vec ℕ Global) (bytes : List ℕ) (old : LogFiles) (b : Bool) (fault : FilesFault)
-    → i < length files → x ≡ get_or files i x → bytes ≡ x.items → HaveFiles opening (bytes_of (take i files)) old b → StopsWhole opening old bytes fault
-    → StopsAtFile opening (bytes_of files) (i + 1) fault
-stops_at opening files i x bytes old b fault lt x_is is h stops =
+pub stops_at : (given : Given) (files : List (Vec ℕ Global)) (i : ℕ) (x : Vec ℕ Global) (bytes : List ℕ) (old : LogFiles) (b : Bool) (fault : FilesFault)
+    → i < length files → x ≡ get_or files i x → bytes ≡ x.items → HaveFiles given (bytes_of (take i files)) old b → StopsWhole given old bytes fault
+    → StopsAtFile given (bytes_of files) (i + 1) fault
+stops_at given files i x bytes old b fault lt x_is is h stops =
     record {
       taken = bytes_of (take i files);
       bytes = bytes;
@@ -155,6 +155,6 @@ stops_at opening files i x bytes old b fault lt x_is is h stops =
       stops = stops (files_state old.taken) h.come;
     }
 
-pub have_all : (opening : Gtids) (files : List (Vec ℕ Global)) (i : ℕ) (new : LogFiles) (b : Bool) → length files ≤ i
-    → HaveFiles opening (bytes_of (take i files)) new b → HaveFiles opening (bytes_of files) new b
-have_all opening files i new b le h = subst (λ (fs : List (Vec ℕ Global)). HaveFiles opening (bytes_of fs) new b) (take_all i files le) h
+pub have_all : (given : Given) (files : List (Vec ℕ Global)) (i : ℕ) (new : LogFiles) (b : Bool) → length files ≤ i
+    → HaveFiles given (bytes_of (take i files)) new b → HaveFiles given (bytes_of files) new b
+have_all given files i new b le h = subst (λ (fs : List (Vec ℕ Global)). HaveFiles given (bytes_of fs) new b) (take_all i files le) h

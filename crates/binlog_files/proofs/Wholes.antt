@@ -19,8 +19,9 @@ use Rattle.log_transactions.specs.declared.fault.EventFault.{EventFault}
 use Rattle.log_transactions.specs.declared.fault.EventFault.TheVariants as events
 use Rattle.log_transactions.specs.declared.fault.EventRefusal.{EventRefusal}
 use Rattle.log_transactions.specs.declared.fault.EventRefusal.TheVariants.{Transaction}
+use Rattle.binlog_files.specs.Given.{Given}
 use Rattle.binlog_files.specs.Files.{HasTaken, IsDamaged}
-use Rattle.binlog_files.specs.Taking.{FilesState, of_log, told_to, with_log, with_name, begin_transaction, is_outside, start, take_event, and_then, take_events}
+use Rattle.binlog_files.specs.Taking.{FilesState, of_log, told_to, with_log, with_name, begin_transaction, is_outside, is_accepted, start, take_event, and_then, take_events}
 use Rattle.binlog_files.specs.Told.{told}
 use Rattle.binlog_files.specs.Whole.{name_told, events_told, event_told, told_behind, told_by, TakesFile, TakesFiles, NoFile, AndFile, IsLogOfFiles}
 use Rattle.binlog_files.specs.declared.fault.FileRefusal.{FileRefusal}
@@ -46,17 +47,17 @@ log_named s m (Ok l) h =
     ap (λ (x : FilesState). Ok x.log) same
 log_named s m (Err x) h = absurd cc
 
-named_in : (opening : Gtids) (s m : FilesState) (gtid : Gtid) (b : Bool)
+named_in : (given : Given) (s m : FilesState) (gtid : Gtid) (b : Bool)
     → cond b (Ok (record { tables = s.tables; is_passed = true; log = s.log })) (with_name s (told_to s.log (Ok (Names gtid ∷ [])))) ≡ Ok m
     → runs s.log (cond b [] (Names gtid ∷ [])) ≡ Ok m.log
-named_in opening s m gtid true h =
+named_in given s m gtid true h =
     let same : record { tables = s.tables; is_passed = true; log = s.log } ≡ m = cc in
     ap (λ (x : FilesState). Ok x.log) same
-named_in opening s m gtid false h = log_named s m (runs s.log (Names gtid ∷ [])) h
+named_in given s m gtid false h = log_named s m (runs s.log (Names gtid ∷ [])) h
 
-begun : (opening : Gtids) (s m : FilesState) (found : Option Gtid) → begin_transaction opening s found ≡ Ok m → runs s.log (name_told opening found) ≡ Ok m.log
-begun opening s m None h = absurd cc
-begun opening s m (Some gtid) h = named_in opening s m gtid (set.contains opening gtid) h
+begun : (given : Given) (s m : FilesState) (found : Option Gtid) → begin_transaction given s found ≡ Ok m → runs s.log (name_told given found) ≡ Ok m.log
+begun given s m None h = absurd cc
+begun given s m (Some gtid) h = named_in given s m gtid (set.contains given.opening gtid) h
 
 log_told : (s m : FilesState) (e : Framed) (r : Result LogState EventRefusal) → with_log s e (of_log r) ≡ Ok m → r ≡ Ok m.log
 log_told s m e (Ok l) h = ap (λ (x : Result FilesState FileRefusal). of_result x) h
@@ -79,49 +80,49 @@ by_tests s m false true first other es ds f g h =
     ap (λ (x : FilesState). Ok x.log) same
 by_tests s m false false first other es ds f g h = g h
 
-runs_event : (opening : Gtids) (s m : FilesState) (e : Framed) → take_event opening s e ≡ Ok m → runs s.log (event_told opening s e) ≡ Ok m.log
+runs_event : (given : Given) (s m : FilesState) (e : Framed) → take_event given s e ≡ Ok m → runs s.log (event_told given s e) ≡ Ok m.log
 unfolding take_event
-runs_event opening s m e h =
-    by_tests s m (e.kind == 33) (s.is_passed && not (is_outside e.kind)) (begin_transaction opening s (gtid_of e.body)) (with_log s e (told_to s.log (told s.tables e)))
-    (name_told opening (gtid_of e.body)) (events_told (told s.tables e)) (begun opening s m (gtid_of e.body)) (told_in s m e (told s.tables e)) h
+runs_event given s m e h =
+    by_tests s m (e.kind == 33) (s.is_passed && not (is_outside e.kind)) (begin_transaction given s (gtid_of e.body)) (with_log s e (told_to s.log (told s.tables (is_accepted given s) e)))
+    (name_told given (gtid_of e.body)) (events_told (told s.tables (is_accepted given s) e)) (begun given s m (gtid_of e.body)) (told_in s m e (told s.tables (is_accepted given s) e)) h
 
 -- ---- events
 
-events_behind : (opening : Gtids) (s t : FilesState) (e : Framed) (es : List Framed) (r : Result FilesState FileRefusal)
-    → ((m : FilesState) → take_events opening m es ≡ Ok t → runs m.log (told_by opening m es) ≡ Ok t.log)
-    → take_event opening s e ≡ r → and_then r (λ m. take_events opening m es) ≡ Ok t
-    → runs s.log (event_told opening s e ++ told_behind r (λ m. told_by opening m es)) ≡ Ok t.log
-events_behind opening s t e es (Ok m) again k h = runs_two s.log m.log t.log (event_told opening s e) (told_by opening m es) (runs_event opening s m e k) (again m h)
-events_behind opening s t e es (Err x) again k h = absurd cc
+events_behind : (given : Given) (s t : FilesState) (e : Framed) (es : List Framed) (r : Result FilesState FileRefusal)
+    → ((m : FilesState) → take_events given m es ≡ Ok t → runs m.log (told_by given m es) ≡ Ok t.log)
+    → take_event given s e ≡ r → and_then r (λ m. take_events given m es) ≡ Ok t
+    → runs s.log (event_told given s e ++ told_behind r (λ m. told_by given m es)) ≡ Ok t.log
+events_behind given s t e es (Ok m) again k h = runs_two s.log m.log t.log (event_told given s e) (told_by given m es) (runs_event given s m e k) (again m h)
+events_behind given s t e es (Err x) again k h = absurd cc
 
-runs_events : (opening : Gtids) (s t : FilesState) (es : List Framed) → take_events opening s es ≡ Ok t → runs s.log (told_by opening s es) ≡ Ok t.log
-runs_events opening s t [] h =
+runs_events : (given : Given) (s t : FilesState) (es : List Framed) → take_events given s es ≡ Ok t → runs s.log (told_by given s es) ≡ Ok t.log
+runs_events given s t [] h =
     let same : s ≡ t = cc in
     ap (λ (x : FilesState). Ok x.log) same
-runs_events opening s t (e ∷ es) h = events_behind opening s t e es (take_event opening s e) (λ m g. runs_events opening m t es g) refl h
+runs_events given s t (e ∷ es) h = events_behind given s t e es (take_event given s e) (λ m g. runs_events given m t es g) refl h
 
 -- ---- files
 
-file_runs : (opening : Gtids) (s t : FilesState) (bytes : List ℕ) (tells : List Event) → TakesFile opening s bytes tells t → runs s.log tells ≡ Ok t.log
-file_runs opening s t bytes tells f = ap (λ x. runs s.log x) f.tell ∙ runs_events opening s t f.events f.taken
+file_runs : (given : Given) (s t : FilesState) (bytes : List ℕ) (tells : List Event) → TakesFile given s bytes tells t → runs s.log tells ≡ Ok t.log
+file_runs given s t bytes tells f = ap (λ x. runs s.log x) f.tell ∙ runs_events given s t f.events f.taken
 
-pub files_run : (opening : Gtids) (s t : FilesState) (files : List (List ℕ)) (tells : List Event) → TakesFiles opening s files tells t → runs s.log tells ≡ Ok t.log
-files_run opening s t files tells NoFile = refl
-files_run opening s t files tells (AndFile before bytes told more mid to first last) =
-    runs_two s.log mid.log to.log told more (files_run opening s mid before told first) (file_runs opening mid to bytes more last)
+pub files_run : (given : Given) (s t : FilesState) (files : List (List ℕ)) (tells : List Event) → TakesFiles given s files tells t → runs s.log tells ≡ Ok t.log
+files_run given s t files tells NoFile = refl
+files_run given s t files tells (AndFile before bytes told more mid to first last) =
+    runs_two s.log mid.log to.log told more (files_run given s mid before told first) (file_runs given mid to bytes more last)
 
-pub files_idle : (opening : Gtids) (s t : FilesState) (files : List (List ℕ)) (tells : List Event) → is_idle s.log.stage ≡ true → TakesFiles opening s files tells t
+pub files_idle : (given : Given) (s t : FilesState) (files : List (List ℕ)) (tells : List Event) → is_idle s.log.stage ≡ true → TakesFiles given s files tells t
     → is_idle t.log.stage ≡ true
-files_idle opening s t files tells idle NoFile = idle
-files_idle opening s t files tells idle (AndFile before bytes told more mid to first last) = last.idle
+files_idle given s t files tells idle NoFile = idle
+files_idle given s t files tells idle (AndFile before bytes told more mid to first last) = last.idle
 
 pub log_of_files : EventsMeanEntries → (to : FilesState) (previous : Gtids) (entries : List Entry) (varied : List Varied)
     → previous ≡ to.log.previous → entries ≡ to.log.entries → varied ≡ to.log.varied → IsLogOfFiles to previous entries varied
-log_of_files law to previous entries varied e f g = λ opening files tells t.
-    let whole = law opening tells to.log (files_run opening (start opening) to files tells t) (files_idle opening (start opening) to files tells refl t) in
-    subst (λ (p : Gtids). AreOfLog opening tells p entries varied) (sym e)
-    (subst (λ (es : List Entry). AreOfLog opening tells to.log.previous es varied) (sym f)
-    (subst (λ (vs : List Varied). AreOfLog opening tells to.log.previous to.log.entries vs) (sym g) whole))
+log_of_files law to previous entries varied e f g = λ given files tells t.
+    let whole = law given.opening tells to.log (files_run given (start given.opening) to files tells t) (files_idle given (start given.opening) to files tells refl t) in
+    subst (λ (p : Gtids). AreOfLog given.opening tells p entries varied) (sym e)
+    (subst (λ (es : List Entry). AreOfLog given.opening tells to.log.previous es varied) (sym f)
+    (subst (λ (vs : List Varied). AreOfLog given.opening tells to.log.previous to.log.entries vs) (sym g) whole))
 
 -- ---- the ends of files
 
@@ -144,10 +145,10 @@ start_none : front_at frames.start ≡ Ok None
 unfolding opening_at
 start_none = refl
 
-pub at_start : (opening : Gtids) (s : Standing) (from to : FilesState) → s ≡ frames.start → to ≡ from → HasTaken opening from [] s to × (front_at s ≡ Ok None)
-at_start opening s from to e f = (record { events = []; follows = sym e; taken = ap Ok (sym f) }, ap front_at e ∙ start_none)
+pub at_start : (given : Given) (s : Standing) (from to : FilesState) → s ≡ frames.start → to ≡ from → HasTaken given from [] s to × (front_at s ≡ Ok None)
+at_start given s from to e f = (record { events = []; follows = sym e; taken = ap Ok (sym f) }, ap front_at e ∙ start_none)
 
-pub cut_short : (opening : Gtids) (from to : FilesState) (bytes : List ℕ) (s : Standing) (fault : FrameFault) → unfinished s ≡ Some fault
-    → HasTaken opening from bytes s to × (front_at s ≡ Ok None) → IsDamaged opening from bytes fault
-cut_short opening from to bytes s fault e h =
+pub cut_short : (given : Given) (from to : FilesState) (bytes : List ℕ) (s : Standing) (fault : FrameFault) → unfinished s ≡ Some fault
+    → HasTaken given from bytes s to × (front_at s ≡ Ok None) → IsDamaged given from bytes fault
+cut_short given from to bytes s fault e h =
     record { events = h.0.events; ends = record { last = s; follows = h.0.follows; wrong = inr (h.1, e) }; state = to; taken = h.0.taken }

@@ -1,5 +1,7 @@
 pub mod Words
 pub mod Settled
+pub mod Accepted
+pub mod Given
 pub mod Statements
 pub mod Tables
 pub mod Rows

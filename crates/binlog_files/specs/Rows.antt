@@ -72,7 +72,7 @@ abbrev pub read_told : ℕ → Bool → List ℕ → Option RowsRead → Result 
 read_told kind ends table None = Err refusals.Format
 read_told kind ends table (Some r) = if has_all kind r then rows_told kind ends table r.rows else Err refusals.Partial
 
--- a table whose name is none of ours has no rows here
+-- a table without a name has no rows here
 abbrev pub named_told : ℕ → List ℕ → TableOf → Option (List ℕ) → Result (List Event) FileRefusal
 named_told kind body t None = Err (refusals.Event Table)
 named_told kind body t (Some name) = read_told kind (slice_index body 6 % 2 == 1) name (rows_read kind t.columns body)
@@ -80,4 +80,4 @@ named_told kind body t (Some name) = read_told kind (slice_index body 6 % 2 == 1
 -- what a rows event tells that names this table, if its id is mapped
 abbrev pub rows_of_told : ℕ → List ℕ → Option TableOf → Result (List Event) FileRefusal
 rows_of_told kind body None = Err (refusals.Event Table)
-rows_of_told kind body (Some t) = named_told kind body t (table_name t.table)
+rows_of_told kind body (Some t) = named_told kind body t (table_name t.database t.table)

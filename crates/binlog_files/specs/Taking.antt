@@ -7,12 +7,13 @@ use Rattle.gtid_set.specs.declared.fault.SetFault.{SetFault}
 use Rattle.gtid_set.specs.declared.fault.SetFault.TheVariants.{Memory}
 use Rattle.journal_words.specs.Gtids.{IsWordFault}
 use Rattle.log_transactions.specs.Events.{Event, Opens, Names}
-use Rattle.log_transactions.specs.Machine.{LogState, behind, runs, IsNameFault, IsPreviousFault}
+use Rattle.log_transactions.specs.Machine.{LogState, named, behind, runs, IsNameFault, IsPreviousFault}
 use Rattle.log_transactions.specs.Machine as machine
 use Rattle.log_transactions.specs.declared.fault.EventRefusal.{EventRefusal}
 use Rattle.binlog_frames.specs.Spelling.{Framed}
 use Rattle.binlog_events.specs.Gtids.{gtid_of}
 use Rattle.binlog_events.specs.Previous.{previous_text}
+use Rattle.binlog_files.specs.Given.{Given}
 use Rattle.binlog_files.specs.Tables.{Tables, no_tables, tables_after}
 use Rattle.binlog_files.specs.Told.{told, set_said}
 use Rattle.binlog_files.specs.declared.fault.FileFault.{FileFault}
@@ -50,10 +51,10 @@ with_name s (Ok log) = Ok (record { tables = s.tables; is_passed = false; log = 
 with_name s (Err refusal) = Err refusal
 
 -- a transaction begins: it is one of the opening set, or the log's
-abbrev pub begin_transaction : Gtids → FilesState → Option Gtid → Result FilesState FileRefusal
-begin_transaction opening s None = Err refusals.Format
-begin_transaction opening s (Some gtid) =
-    if set.contains opening gtid then Ok (record { tables = s.tables; is_passed = true; log = s.log })
+abbrev pub begin_transaction : Given → FilesState → Option Gtid → Result FilesState FileRefusal
+begin_transaction given s None = Err refusals.Format
+begin_transaction given s (Some gtid) =
+    if set.contains given.opening gtid then Ok (record { tables = s.tables; is_passed = true; log = s.log })
     else with_name s (told_to s.log (Ok (Names gtid ∷ [])))
 
 -- what is of no transaction, or begins one: STOP, ROTATE, FORMAT_DESCRIPTION, INCIDENT, ANONYMOUS_GTID, PREVIOUS_GTIDS and GTID_TAGGED
@@ -61,21 +62,29 @@ abbrev pub is_outside : ℕ → Bool
 is_outside kind =
     (kind == 3) || ((kind == 4) || ((kind == 15) || ((kind == 26) || ((kind == 34) || ((kind == 35) || (kind == 42))))))
 
+-- an operator answers for the statements of a transaction of which only its GTID has come
+abbrev pub accepts : Gtids → Option Gtid → Bool
+accepts accepted None = false
+accepts accepted (Some gtid) = set.contains accepted gtid
+
+abbrev pub is_accepted : Given → FilesState → Bool
+is_accepted given s = accepts given.accepted (named s.log)
+
 -- an event is taken; 33 is GTID
-unfoldable pub take_event : Gtids → FilesState → Framed → Result FilesState FileRefusal
-take_event opening s e =
-    if e.kind == 33 then begin_transaction opening s (gtid_of e.body)
+unfoldable pub take_event : Given → FilesState → Framed → Result FilesState FileRefusal
+take_event given s e =
+    if e.kind == 33 then begin_transaction given s (gtid_of e.body)
     else if s.is_passed && not (is_outside e.kind) then Ok s
-    else with_log s e (told_to s.log (told s.tables e))
+    else with_log s e (told_to s.log (told s.tables (is_accepted given s) e))
 
 abbrev pub and_then : Result FilesState FileRefusal → (FilesState → Result FilesState FileRefusal) → Result FilesState FileRefusal
 and_then (Ok s) next = next s
 and_then (Err refusal) next = Err refusal
 
 -- events are taken, one after another
-abbrev pub take_events : Gtids → FilesState → List Framed → Result FilesState FileRefusal
-take_events opening s [] = Ok s
-take_events opening s (e ∷ es) = and_then (take_event opening s e) (λ t. take_events opening t es)
+abbrev pub take_events : Given → FilesState → List Framed → Result FilesState FileRefusal
+take_events given s [] = Ok s
+take_events given s (e ∷ es) = and_then (take_event given s e) (λ t. take_events given t es)
 
 -- ---- calls
 
@@ -121,13 +130,13 @@ NamesOr may (Err (faults.Refused refusal)) old gtid new = with_name old (told_to
 NamesOr may (Err (faults.Set fault)) old gtid new = may fault
 
 -- the same of a transaction that begins
-abbrev pub BeginsOr : Gtids → Result (Unit {0}) FileFault → FilesState → Option Gtid → FilesState → Type 0
-BeginsOr opening (Ok _) old gtid new = begin_transaction opening old gtid ≡ Ok new
-BeginsOr opening (Err (faults.Refused refusal)) old gtid new = begin_transaction opening old gtid ≡ Err refusal
-BeginsOr opening (Err (faults.Set fault)) old gtid new = IsGtidFault old.log gtid fault
+abbrev pub BeginsOr : Given → Result (Unit {0}) FileFault → FilesState → Option Gtid → FilesState → Type 0
+BeginsOr given (Ok _) old gtid new = begin_transaction given old gtid ≡ Ok new
+BeginsOr given (Err (faults.Refused refusal)) old gtid new = begin_transaction given old gtid ≡ Err refusal
+BeginsOr given (Err (faults.Set fault)) old gtid new = IsGtidFault old.log gtid fault
 
 -- What a call did with an event: it is taken, or it is refused, or there was a fault that may be.
-abbrev pub TakesEvent : Gtids → Result (Unit {0}) FileFault → FilesState → Framed → FilesState → Type 0
-TakesEvent opening (Ok _) old e new = take_event opening old e ≡ Ok new
-TakesEvent opening (Err (faults.Refused refusal)) old e new = take_event opening old e ≡ Err refusal
-TakesEvent opening (Err (faults.Set fault)) old e new = IsEventFault old.log e fault
+abbrev pub TakesEvent : Given → Result (Unit {0}) FileFault → FilesState → Framed → FilesState → Type 0
+TakesEvent given (Ok _) old e new = take_event given old e ≡ Ok new
+TakesEvent given (Err (faults.Refused refusal)) old e new = take_event given old e ≡ Err refusal
+TakesEvent given (Err (faults.Set fault)) old e new = IsEventFault old.log e fault

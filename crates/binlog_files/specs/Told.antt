@@ -5,6 +5,7 @@ use Rattle.gtid_text.specs.declared.Gtid.{Gtid}
 use Rattle.gtid_set.specs.Sets.{Gtids}
 use Rattle.journal_words.specs.Gtids.{set_of_word}
 use Rattle.log_transactions.specs.Events.{Event, Opens, Precedes, Names, Commits, Maps, Columns, Varies}
+use Rattle.log_transactions.specs.Tables.{joined_name}
 use Rattle.binlog_frames.specs.Spelling.{Framed}
 use Rattle.binlog_events.specs.Bodies.{query_text, Mapped, mapped, rows_id}
 use Rattle.binlog_events.specs.Previous.{previous_text}
@@ -22,9 +23,10 @@ abbrev pub one : Result Event FileRefusal → Result (List Event) FileRefusal
 one (Ok event) = Ok (event ∷ [])
 one (Err refusal) = Err refusal
 
-abbrev pub query_told : Option (List ℕ) → Result (List Event) FileRefusal
-query_told None = Err refusals.Format
-query_told (Some text) = one (statement_told text)
+-- and whether an operator answers for the statement
+abbrev pub query_told : Bool → Option (List ℕ) → Result (List Event) FileRefusal
+query_told is_accepted None = Err refusals.Format
+query_told is_accepted (Some text) = one (statement_told is_accepted text)
 
 -- XID: 8 bytes
 abbrev pub xid_told : List ℕ → Result (List Event) FileRefusal
@@ -58,7 +60,7 @@ varies table (column ∷ columns) = Varies table column.place column.collation �
 
 -- a table is mapped that has so many columns, of which these are compared otherwise than by their bytes
 abbrev pub table_told : Mapped → ℕ → List VariedPlace → Result (List Event) FileRefusal
-table_told m columns varied = Ok (Maps m.database m.table ∷ Columns columns ∷ varies m.table varied)
+table_told m columns varied = Ok (Maps m.database m.table ∷ Columns columns ∷ varies (joined_name m.database m.table) varied)
 
 -- the same, where the map says the columns, their signs and their collations
 abbrev pub columns_told : Mapped → Option (List MappedColumn) → Option (List VariedPlace) → Result (List Event) FileRefusal
@@ -111,10 +113,10 @@ unknown_told None flags = if is_ignorable flags then Ok [] else Err refusals.Kin
 unfoldable pub other_told : ℕ → ℕ → Result (List Event) FileRefusal
 other_told kind flags = if is_silent kind then Ok [] else unknown_told (kind_refusal kind) flags
 
--- what an event tells but a GTID, where these tables are mapped
-unfoldable pub told : Tables → Framed → Result (List Event) FileRefusal
-told tables e =
-    if e.kind == 2 then query_told (query_text e.body)
+-- what an event tells but a GTID, where these tables are mapped, and whether an operator answers for a statement that comes now
+unfoldable pub told : Tables → Bool → Framed → Result (List Event) FileRefusal
+told tables is_accepted e =
+    if e.kind == 2 then query_told is_accepted (query_text e.body)
     else if e.kind == 16 then xid_told e.body
     else if e.kind == 19 then map_told (mapped e.body) (columns_of e.body) (varied_columns e.body)
     else if e.kind == 35 then previous_told (previous_text e.body)

@@ -24,17 +24,18 @@ pub(crate) fn settled(taken: Result<(), EventFault>) -> Result<(), FileFault>
     }
 }
 
-/// Tells a log what a QUERY tells.
+/// Tells a log what a QUERY tells, for whose statement an operator answers or doesn't.
 pub(crate) fn take_query(
     alloc: Global,
     log: &mut LogTransactions,
+    is_accepted: bool,
     body: &[u8],
 ) -> Result<(), FileFault>
-    ensures { Tells result (state log.old) (query_told (query_text body.now)) (state log.new) }
+    ensures { Tells result (state log.old) (query_told is_accepted (query_text body.now)) (state log.new) }
 {
     match query_text(body) {
         None => Err(FileFault::Refused(FileRefusal::Format)),
-        Some(text) => take_statement(alloc, log, text),
+        Some(text) => take_statement(alloc, log, is_accepted, text),
     }
 }
 

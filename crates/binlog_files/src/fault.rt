@@ -17,7 +17,7 @@ pub enum FileRefusal {
     Format,
     /// The second event of a file is no PREVIOUS_GTIDS.
     Previous,
-    /// A statement other than BEGIN, COMMIT, a savepoint and a flush.
+    /// A statement other than BEGIN, COMMIT, a savepoint and one of maintenance.
     Statement,
     /// A distributed transaction.
     Xa,

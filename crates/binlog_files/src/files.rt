@@ -2,9 +2,11 @@
 ghost use Rattle.std.specs.Prelude.{◌≡◌, Ok, OnOk, IfOk, IfErr};
 ghost use Rattle.binlog_frames.specs.Standing.{front_at};
 ghost use Rattle.binlog_files.specs.Files.{TakesOn, StopsOn, NextTaken, NextStops, FrontTaken, AllTaken, AllStop};
+ghost use Rattle.binlog_files.specs.Given.{sets};
 ghost use Rattle.binlog_files.specs.Moved.{files_state};
 
 use crate::fault::{FileFault, FileRefusal};
+use crate::given::GivenSets;
 use crate::taking::TakenEvents;
 use binlog_frames::{FrameFault, FrameReader};
 use gtid_set::{GtidSet, SetFault};
@@ -32,17 +34,17 @@ pub struct LogFiles {
 /// Takes the event at the front, if it has come whole.
 fn take_next(
     alloc: Global,
-    opening: &GtidSet,
+    given: GivenSets<'_>,
     frames: &FrameReader,
     taken: &mut TakenEvents,
 ) -> Result<bool, FilesFault>
-    ensures taken { IfOk result (NextTaken opening.now frames.now (files_state taken.old) (files_state taken.new)) }
-    ensures stops { IfErr result (NextStops opening.now frames.now (files_state taken.old)) }
+    ensures taken { IfOk result (NextTaken (sets given.entry) frames.now (files_state taken.old) (files_state taken.new)) }
+    ensures stops { IfErr result (NextStops (sets given.entry) frames.now (files_state taken.old)) }
 {
     match frames.front() {
         Err(fault) => Err(FilesFault::Damaged(fault)),
         Ok(None) => Ok(false),
-        Ok(Some(event)) => match taken.take(alloc, opening, &event) {
+        Ok(Some(event)) => match taken.take(alloc, given, &event) {
             Ok(()) => Ok(true),
             Err(FileFault::Set(fault)) => Err(FilesFault::Set(fault)),
             Err(FileFault::Refused(refusal)) => Err(FilesFault::Refused(frames.offset(), refusal)),
@@ -53,14 +55,14 @@ fn take_next(
 /// Takes the event at the front, if it has come whole, and passes it.
 fn take_front(
     alloc: Global,
-    opening: &GtidSet,
+    given: GivenSets<'_>,
     frames: &mut FrameReader,
     taken: &mut TakenEvents,
 ) -> Result<bool, FilesFault>
-    ensures taken { IfOk result (FrontTaken opening.now frames.old frames.new (files_state taken.old) (files_state taken.new)) }
-    ensures stops { IfErr result (AllStop opening.now frames.old (files_state taken.old)) }
+    ensures taken { IfOk result (FrontTaken (sets given.entry) frames.old frames.new (files_state taken.old) (files_state taken.new)) }
+    ensures stops { IfErr result (AllStop (sets given.entry) frames.old (files_state taken.old)) }
 {
-    match take_next(alloc, opening, frames, taken) {
+    match take_next(alloc, given, frames, taken) {
         Ok(true) => {
             frames.pass();
             Ok(true)
@@ -73,15 +75,15 @@ fn take_front(
 /// Takes all events that have come whole.
 fn drain(
     alloc: Global,
-    opening: &GtidSet,
+    given: GivenSets<'_>,
     frames: &mut FrameReader,
     taken: &mut TakenEvents,
 ) -> Result<(), FilesFault>
-    ensures taken { OnOk result (AllTaken opening.now frames.old frames.new (files_state taken.old) (files_state taken.new)) }
-    ensures stops { IfErr result (AllStop opening.now frames.old (files_state taken.old)) }
+    ensures taken { OnOk result (AllTaken (sets given.entry) frames.old frames.new (files_state taken.old) (files_state taken.new)) }
+    ensures stops { IfErr result (AllStop (sets given.entry) frames.old (files_state taken.old)) }
 {
     'events: loop {
-        match take_front(alloc, opening, frames, taken) {
+        match take_front(alloc, given, frames, taken) {
             Ok(true) => {}
             Ok(false) => return Ok(()),
             Err(fault) => return Err(fault),
@@ -92,14 +94,14 @@ fn drain(
 impl LogFiles {
     ghost use Rattle.std.specs.Prelude.{[], ◌==◌};
     ghost use Rattle.binlog_frames.specs.Standing.{tail_of};
-    ghost use Rattle.gtid_set.specs.Sets.{Gtids};
     ghost use Rattle.binlog_files.specs.Files.{HasCome};
+    ghost use Rattle.binlog_files.specs.Given.{Given};
     ghost use Rattle.binlog_files.specs.Taking.{start};
     ghost use Rattle.binlog_files.specs.Whole.{EndsFile, StopsFile, IsLogOfFiles};
 
     /// Before the first file of a log, where these GTIDs are in the opening set.
     pub fn start(alloc: Global, opening: GtidSet) -> LogFiles
-        ensures { HasCome opening (start opening) [] result }
+        ensures { (given : Given) → HasCome given (start opening) [] result }
     {
         LogFiles {
             frames: FrameReader::new(alloc),
@@ -108,15 +110,21 @@ impl LogFiles {
     }
 
     /// These bytes of a file come. After an error no more are to come.
-    pub fn feed(&mut self, alloc: Global, opening: &GtidSet, piece: &[u8]) -> Result<(), FilesFault>
-        ensures taken { OnOk result (TakesOn opening.now self.old self.new piece.now) }
-        ensures stops { IfErr result (StopsOn opening.now self.old piece.now) }
+    pub fn feed(
+        &mut self,
+        alloc: Global,
+        given: GivenSets<'_>,
+        piece: &[u8],
+    ) -> Result<(), FilesFault>
+        ensures taken { OnOk result (TakesOn (sets given.entry) self.old self.new piece.now) }
+        ensures stops { IfErr result (StopsOn (sets given.entry) self.old piece.now) }
     {
         let Ok(()) = self.frames.feed(alloc, piece) else {
             return Err(FilesFault::Set(SetFault::Memory));
         };
-        drain(alloc, opening, &mut self.frames, &mut self.taken)
+        drain(alloc, given, &mut self.frames, &mut self.taken)
     }
+
     /// The file ends here, and the next one begins. A file may not end within an event or within a transaction. After an error no more are to
     /// come.
     pub fn end_file(&mut self, alloc: Global) -> Result<(), FilesFault>

@@ -2,7 +2,8 @@
 //!
 //! What a contract sees: `told` (`specs/Told`) is what an event tells, in the words of `log_transactions`, where these tables are mapped, or why
 //! it is refused; `take_events` (`specs/Taking`) is a state after events, of which transactions of the opening set are passed over, whatever they
-//! hold. `LogFiles` is fed the bytes of the files of a log, one file after another (`HasTaken`). A file whose bytes are not those of events, by
+//! hold. An operator may answer for the statements of some transactions (`GivenSets`): those that may be accepted (`may_be_accepted`,
+//! `specs/Accepted`) and come right behind their GTID are entries without changes then. `LogFiles` is fed the bytes of the files of a log, one file after another (`HasTaken`). A file whose bytes are not those of events, by
 //! the grammar of `binlog_frames`, or an event that is refused, ends the reading, with the event's offset (`IsDamaged`, `IsRefused`).
 //! `read_files` does so with files that are there whole: what they tell of a log, its entries denote (`AreFilesOf`), or a file of this number
 //! stops it (`StopsInFiles`). `is_unchecked` is whether a file has no checksums (`has_no_checksums`): damage in it can't be seen.
@@ -17,9 +18,11 @@
 //! of the maps of another one, with all of its collations, the varied columns were those of its text. No test of the repository does that yet.
 #![tactic(auto)]
 
+mod accepted;
 mod bodies;
 mod fault;
 mod files;
+mod given;
 mod mapping;
 mod previous;
 mod row_events;
@@ -30,4 +33,5 @@ mod whole;
 
 pub use fault::{FileFault, FileRefusal};
 pub use files::{FilesFault, LogFiles};
+pub use given::GivenSets;
 pub use whole::{FiledFault, FiledTransactions, read_files};

@@ -188,7 +188,7 @@ fn tell_table(
 ) -> Result<(), FileFault>
     ensures { Tells result (state log.old) (rows_of_told kind body.now (Some (table_view table.now))) (state log.new) }
 {
-    let Some(name) = table_name(alloc, &table.table)? else {
+    let Some(name) = table_name(alloc, &table.database, &table.table)? else {
         return Err(FileFault::Refused(FileRefusal::Event(EventRefusal::Table)));
     };
     let read = read_rows(alloc, kind, &table.columns, body)?;

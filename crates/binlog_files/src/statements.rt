@@ -5,6 +5,7 @@ ghost use Rattle.binlog_files.specs.Taking.{Tells};
 ghost use Rattle.binlog_files.specs.Told.{one};
 ghost use Rattle.log_transactions.specs.States.{state};
 
+use crate::accepted::may_be_accepted;
 use crate::bodies::settled;
 use crate::fault::{FileFault, FileRefusal};
 use binlog_text::{LogLine, Mark, read_line};
@@ -35,20 +36,24 @@ fn take_mark(
         Mark::Begin => settled(log.begin()),
         Mark::Commit => settled(log.commit(alloc)),
         Mark::Savepoint => settled(log.take_savepoint()),
-        Mark::Flush => settled(log.flush(alloc)),
+        Mark::Maintenance => settled(log.maintain(alloc)),
         _ => Err(FileFault::Refused(statement_refusal(text))),
     }
 }
 
-/// Tells a log a statement.
+/// Tells a log a statement, for which an operator answers or doesn't.
 #[tactic(auto, unfolding(crate::specs::Statements::statement_told))]
 pub(crate) fn take_statement(
     alloc: Global,
     log: &mut LogTransactions,
+    is_accepted: bool,
     text: &[u8],
 ) -> Result<(), FileFault>
-    ensures { Tells result (state log.old) (one (statement_told text.now)) (state log.new) }
+    ensures { Tells result (state log.old) (one (statement_told is_accepted text.now)) (state log.new) }
 {
+    if is_accepted && may_be_accepted(text) {
+        return settled(log.maintain(alloc));
+    }
     match read_line(text) {
         Some(LogLine::Mark(mark)) => take_mark(alloc, log, mark, text),
         _ => Err(FileFault::Refused(statement_refusal(text))),

@@ -3,11 +3,13 @@ ghost use Rattle.std.specs.Prelude.{◌≡◌, ◌||◌, [], false, map, IfOk, O
 ghost use Rattle.std.specs.List.{list_any};
 ghost use Rattle.binlog_frames.specs.Standing.{front_at};
 ghost use Rattle.binlog_files.specs.Files.{HasCome};
+ghost use Rattle.binlog_files.specs.Given.{sets};
 ghost use Rattle.binlog_files.specs.Taking.{start};
 ghost use Rattle.binlog_files.specs.Whole.{is_previous, behind_front, unlisted_at, is_unlisted, IsUnlisted, TakesWhole, StopsWhole, HaveFiles, StopsAtFile, AreFilesOf, StopsInFiles, has_no_checksums};
 
 use crate::fault::FileRefusal;
 use crate::files::{FilesFault, LogFiles};
+use crate::given::GivenSets;
 use binlog_frames::FrameReader;
 use gtid_set::{GtidSet, SetFault};
 use log_transactions::LoggedTransactions;
@@ -75,14 +77,14 @@ fn check_listed(alloc: Global, bytes: &[u8]) -> Result<(), FilesFault>
 /// Takes a file whose bytes these are; whether its events have no checksums.
 fn take_file(
     alloc: Global,
-    opening: &GtidSet,
+    given: GivenSets<'_>,
     log: &mut LogFiles,
     bytes: &[u8],
 ) -> Result<bool, FilesFault>
-    ensures taken { IfOk result (TakesWhole opening.now log.old bytes.now log.new) }
-    ensures stops { IfErr result (StopsWhole opening.now log.old bytes.now) }
+    ensures taken { IfOk result (TakesWhole (sets given.entry) log.old bytes.now log.new) }
+    ensures stops { IfErr result (StopsWhole (sets given.entry) log.old bytes.now) }
 {
-    match log.feed(alloc, opening, bytes) {
+    match log.feed(alloc, given, bytes) {
         Ok(()) => {}
         Err(fault) => return Err(fault),
     }
@@ -106,17 +108,17 @@ fn either(one: bool, other: bool) -> bool
 /// Takes files, one after another; whether the events of one of them have no checksums.
 fn take_files(
     alloc: Global,
-    opening: &GtidSet,
+    given: GivenSets<'_>,
     log: &mut LogFiles,
     files: &[Vec<u8>],
 ) -> Result<bool, FiledFault>
-    requires { HasCome opening.now (start opening.now) [] log.old }
-    ensures taken { IfOk result (HaveFiles opening.now (map (λ v. v.items) files.now) log.new) }
-    ensures stops { IfErr result (λ f. StopsAtFile opening.now (map (λ v. v.items) files.now) f.file f.fault) }
+    requires { HasCome (sets given) (start given.opening.now) [] log.old }
+    ensures taken { IfOk result (HaveFiles (sets given.entry) (map (λ v. v.items) files.now) log.new) }
+    ensures stops { IfErr result (λ f. StopsAtFile (sets given.entry) (map (λ v. v.items) files.now) f.file f.fault) }
 {
     let mut is_unchecked = false;
     for (place, bytes) in files.iter().enumerate() {
-        match take_file(alloc, opening, log, bytes) {
+        match take_file(alloc, given, log, bytes) {
             Ok(unchecked) => is_unchecked = either(is_unchecked, unchecked),
             Err(fault) => {
                 let file = place as u64 + 1;
@@ -130,18 +132,18 @@ fn take_files(
 /// What files have, where this is the copy of their opening set.
 fn read_behind(
     alloc: Global,
-    opening: &GtidSet,
+    given: GivenSets<'_>,
     come: GtidSet,
     files: &[Vec<u8>],
 ) -> Result<FiledTransactions, FiledFault>
-    requires { come ≡ opening.now }
-    ensures found { IfOk result (λ l. AreFilesOf opening.now (map (λ v. v.items) files.now)
+    requires { come ≡ given.opening.now }
+    ensures found { IfOk result (λ l. AreFilesOf (sets given.entry) (map (λ v. v.items) files.now)
         l.log.previous l.log.entries.items l.log.varied.items) }
     ensures unchecked { IfOk result (λ l. l.is_unchecked ≡ list_any has_no_checksums (map (λ v. v.items) files.now)) }
-    ensures refused { IfErr result (λ f. StopsAtFile opening.now (map (λ v. v.items) files.now) f.file f.fault) }
+    ensures refused { IfErr result (λ f. StopsAtFile (sets given.entry) (map (λ v. v.items) files.now) f.file f.fault) }
 {
     let mut log = LogFiles::start(alloc, come);
-    match take_files(alloc, opening, &mut log, files) {
+    match take_files(alloc, given, &mut log, files) {
         Ok(is_unchecked) => Ok(FiledTransactions {
             log: log.into_log(),
             is_unchecked,
@@ -151,23 +153,24 @@ fn read_behind(
 }
 
 /// What the files of a log have, each of which is there whole, in the order in which the server wrote them. What comes before the log is in
-/// the opening set: its transactions are passed over. Without files there is no entry. The second event of each file is its previous set. A file may not end within an event or within a
-/// transaction, and the GTIDs of its previous set lie in what came before it.
+/// the opening set: its transactions are passed over. A statement that is refused otherwise is an entry without changes where an operator answers
+/// for it and may do so. Without files there is no entry. The second event of each file is its previous set. A file may not end within an event
+/// or within a transaction, and the GTIDs of its previous set lie in what came before it.
 pub fn read_files(
     alloc: Global,
-    opening: &GtidSet,
+    given: GivenSets<'_>,
     files: &[Vec<u8>],
 ) -> Result<FiledTransactions, FiledFault>
     // The bytes are files of events, and what these tell of a log, the entries denote.
-    ensures found { IfOk result (λ l. AreFilesOf opening.now (map (λ v. v.items) files.now)
+    ensures found { IfOk result (λ l. AreFilesOf (sets given.entry) (map (λ v. v.items) files.now)
         l.log.previous l.log.entries.items l.log.varied.items) }
     // The FORMAT_DESCRIPTION of a file says that it has no checksums.
     ensures unchecked { IfOk result (λ l. l.is_unchecked ≡ list_any has_no_checksums (map (λ v. v.items) files.now)) }
     // The files before this one were taken, and behind them it is damaged or refused there.
-    ensures refused { IfErr result (StopsInFiles opening.now (map (λ v. v.items) files.now)) }
+    ensures refused { IfErr result (StopsInFiles (sets given.entry) (map (λ v. v.items) files.now)) }
 {
-    match opening.copy(alloc) {
-        Ok(come) => read_behind(alloc, opening, come, files),
+    match given.opening.copy(alloc) {
+        Ok(come) => read_behind(alloc, given, come, files),
         Err(fault) => Err(FiledFault {
             file: 1,
             fault: FilesFault::Set(fault),

@@ -1,5 +1,5 @@
 -- What the bytes of a value are: a number, or a string of bytes. None: they have no form here, or are not in the one form of a value.
-use Rattle.std.specs.Prelude.{ℕ, pos, negsuc, ◌+◌, ◌-◌, ◌^◌, ◌==◌, nat_lt, nat_le, Bool, true, List, [], ◌∷◌, length, reverse, take, drop, Option, Some, None, option_map, if◌then◌else◌}
+use Rattle.std.specs.Prelude.{ℕ, pos, negsuc, ◌+◌, ◌-◌, ◌^◌, ◌==◌, nat_lt, nat_le, Bool, true, List, [], ◌∷◌, length, reverse, take, drop, Option, Some, None, option_map, decimal, if◌then◌else◌}
 use Rattle.std.specs.List.{list_all, flat_map}
 use Rattle.row_images.specs.declared.value.Value.{Value}
 use Rattle.row_images.specs.declared.value.Value.TheVariants.{Null, Int, Bytes}
@@ -18,9 +18,9 @@ use Rattle.binlog_rows.specs.Json.{json_text}
 
 -- ---- numbers
 
--- a number below 2 ^ 63: there are no others in a row
-abbrev pub whole_value : ℕ → Option Value
-whole_value n = if nat_lt n (2 ^ 63) then Some (Int (pos n)) else None
+-- a number without a sign: from 2 ^ 63 on, where a row has no number, the bytes of its decimal digits
+abbrev pub unsigned_value : ℕ → Value
+unsigned_value n = if nat_lt n (2 ^ 63) then Int (pos n) else Bytes (decimal n)
 
 -- the greatest number of so many bytes, one bit of which is the sign
 abbrev pub greatest : ℕ → Option ℕ
@@ -47,7 +47,7 @@ signed_by (Some most) n = signed_value most n
 abbrev pub integer_value : ℕ → Signedness → List ℕ → Option Value
 integer_value width signs.Unknown bytes = None
 integer_value width signs.Signed bytes = signed_by (greatest width) (low_number bytes)
-integer_value width signs.Unsigned bytes = whole_value (low_number bytes)
+integer_value width signs.Unsigned bytes = Some (unsigned_value (low_number bytes))
 
 -- a year from 1900 on; 0 is the year 0000, which mysqlbinlog prints as 1900 too
 abbrev pub year_value : List ℕ → Option Value
@@ -75,7 +75,7 @@ short_value most bytes = if nat_le (length bytes) most then Some (Bytes bytes) e
 -- without a fraction the seconds are a number
 abbrev pub timestamp_value : ℕ → List ℕ → Option Value
 timestamp_value digits bytes =
-    if digits == 0 then whole_value (high_number bytes) else option_map Bytes (timestamp_of digits bytes)
+    if digits == 0 then Some (unsigned_value (high_number bytes)) else option_map Bytes (timestamp_of digits bytes)
 
 -- ---- values
 
@@ -97,7 +97,7 @@ value_by_type (columns.Blob width) bytes = Some (Bytes bytes)
 value_by_type (columns.Json width) bytes = option_map Bytes (json_text bytes)
 value_by_type (columns.Geometry width) bytes = Some (Bytes bytes)
 value_by_type (columns.Vector width) bytes = Some (Bytes bytes)
-value_by_type (columns.Enum width) bytes = whole_value (low_number bytes)
+value_by_type (columns.Enum width) bytes = Some (unsigned_value (low_number bytes))
 value_by_type (columns.Set width) bytes = Some (set_value bytes)
 
 -- so many bytes lie so

@@ -1,7 +1,7 @@
 //! What the bytes of a value are.
 ghost use Rattle.std.specs.Prelude.{◌≡◌, ◌<◌, ◌^◌, length, IfOk, IfSome, option_map, Some, reverse};
 ghost use Rattle.row_images.specs.declared.value.Value.TheVariants.{Bytes};
-ghost use Rattle.binlog_rows.specs.Values.{whole_value, greatest, signed_value, signed_by, integer_value, year_value, set_value, low_bits, bit_value, short_value, timestamp_value, value_by_type, lies_so, value_of};
+ghost use Rattle.binlog_rows.specs.Values.{unsigned_value, greatest, signed_value, signed_by, integer_value, year_value, set_value, low_bits, bit_value, short_value, timestamp_value, value_by_type, lies_so, value_of};
 
 use crate::columns::{MappedColumn, Signedness};
 use crate::decimals::decimal_value;
@@ -10,18 +10,19 @@ use crate::images::{Layout, layout_of};
 use crate::json::json_value;
 use crate::numbers::{high_number, low_number};
 use crate::times::{date_value, datetime_value, time_value, timestamp_value};
+use itoa::Buffer;
 use row_images::Value;
 use std::alloc::{AllocError, Global};
 
-/// The number, if it is below 2^63.
-fn whole_value(number: u64) -> Option<Value>
-    ensures { result ≡ whole_value number }
+/// The value of a number without a sign: from 2^63 on, the bytes of its decimal digits.
+fn unsigned_value(alloc: Global, number: u64) -> Result<Value, AllocError>
+    ensures { IfOk result (λ value. value ≡ unsigned_value number) }
 {
     if number < 0x8000_0000_0000_0000 {
-        Some(Value::Int(number as i64))
-    } else {
-        None
+        return Ok(Value::Int(number as i64));
     }
+    let mut digits = Buffer::new();
+    copied_value(alloc, digits.format(number).as_bytes())
 }
 
 /// The greatest number of so many bytes, one bit of which is the sign.
@@ -65,13 +66,18 @@ fn signed_by(width: u8, number: u64) -> Option<Value>
 }
 
 /// The number of so many bytes.
-fn integer_value(width: u8, sign: Signedness, bytes: &[u8]) -> Option<Value>
-    ensures { result ≡ integer_value width sign bytes.now }
+fn integer_value(
+    alloc: Global,
+    width: u8,
+    sign: Signedness,
+    bytes: &[u8],
+) -> Result<Option<Value>, AllocError>
+    ensures { IfOk result (λ value. value ≡ integer_value width sign bytes.now) }
 {
     match sign {
-        Signedness::Unknown => None,
-        Signedness::Signed => signed_by(width, low_number(bytes)),
-        Signedness::Unsigned => whole_value(low_number(bytes)),
+        Signedness::Unknown => Ok(None),
+        Signedness::Signed => Ok(signed_by(width, low_number(bytes))),
+        Signedness::Unsigned => Ok(Some(unsigned_value(alloc, low_number(bytes))?)),
     }
 }
 
@@ -137,7 +143,7 @@ fn seconds_value(alloc: Global, digits: u8, bytes: &[u8]) -> Result<Option<Value
     ensures { IfOk result (λ value. value ≡ timestamp_value digits bytes.now) }
 {
     if digits == 0 {
-        return Ok(whole_value(high_number(bytes)));
+        return Ok(Some(unsigned_value(alloc, high_number(bytes))?));
     }
     timestamp_value(alloc, digits, bytes)
 }
@@ -152,9 +158,9 @@ fn value_by_type(
     ensures { IfOk result (λ value. value ≡ value_by_type column bytes.now) }
 {
     match column {
-        MappedColumn::Integer(width, sign) => Ok(integer_value(width, sign, bytes)),
+        MappedColumn::Integer(width, sign) => integer_value(alloc, width, sign, bytes),
         MappedColumn::Year => Ok(year_value(bytes)),
-        MappedColumn::Enum(_) => Ok(whole_value(low_number(bytes))),
+        MappedColumn::Enum(_) => Ok(Some(unsigned_value(alloc, low_number(bytes))?)),
         MappedColumn::Float | MappedColumn::Double => Ok(Some(reversed(alloc, bytes)?)),
         MappedColumn::Decimal(precision, scale) => decimal_value(alloc, precision, scale, bytes),
         MappedColumn::Bit(count) => bit_value(alloc, count, bytes),
@@ -182,15 +188,14 @@ fn lies_so(layout: Layout, len: usize) -> bool
 }
 
 /// The value that these bytes are in a column, as an import of mysqlbinlog's text has it: numbers of INTEGER types, YEAR and ENUM, and of
-/// TIMESTAMP without a fraction; else a string of bytes, which is the text that mysqlbinlog prints of a time, a DECIMAL and bits, and the
-/// bytes themselves of a string. FLOAT and DOUBLE are the bytes of their IEEE form, the sign's first, GEOMETRY and VECTOR those of the log.
-/// JSON is the text of the document, as a server prints it (`CAST(.. AS CHAR)`): members in the order of the binary form, by which servers
-/// sort them, and the bytes of strings as they are, whether they are UTF-8 or not.
+/// TIMESTAMP without a fraction, but of numbers from 2^63 on the bytes of their decimal digits; else a string of bytes, which is the text that
+/// mysqlbinlog prints of a time, a DECIMAL and bits, and the bytes themselves of a string. FLOAT and DOUBLE are the bytes of their IEEE form,
+/// the sign's first, GEOMETRY and VECTOR those of the log. JSON is the text of the document, as a server prints it (`CAST(.. AS CHAR)`):
+/// members in the order of the binary form, by which servers sort them, and the bytes of strings as they are, whether they are UTF-8 or not.
 ///
 /// `None` for a JSON that has a value of an SQL type in it, a double that a server prints with an exponent, more than 100 levels, or a text
-/// of more than 6 times its bytes; for integers of which the map doesn't say whether they have a sign, for those from 2^63 on; and where the
-/// bytes are not in the one form that the server writes: a part of a time that is too large, -0, a digit too many, more bytes than the column
-/// holds.
+/// of more than 6 times its bytes; for integers of which the map doesn't say whether they have a sign; and where the bytes are not in the one
+/// form that the server writes: a part of a time that is too large, -0, a digit too many, more bytes than the column holds.
 #[tactic(auto, unfolding(crate::specs::Values::value_of))]
 pub fn value_of(
     alloc: Global,

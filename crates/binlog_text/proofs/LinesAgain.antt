@@ -1,16 +1,16 @@
 -- Reading a line is complete: the content of a line is read.
 use Rattle.std.proofs.Common.{◌≡◌, ℕ, ◌^◌, ◌<◌, Bool, true, false, cond, eqb, List, [], ◌∷◌, ◌++◌, Option, Some, None, refl, sym, ap, ◌∙◌, subst, append-nil, arith, inl, inr, ◌⊎◌}
-use Rattle.std.specs.Prelude.{◌&&◌, ◌||◌, codes, decimal, is_some, length}
-use Rattle.std.specs.Str.{bytes_eq}
+use Rattle.std.specs.Prelude.{◌+◌, ◌-◌, ◌≤◌, nat_lt, ◌&&◌, ◌||◌, codes, decimal, is_some, length}
+use Rattle.std.specs.Str.{bytes_eq, str_eq_ignore_ascii_case}
 use Rattle.std.specs.List.{list_all}
-use Rattle.std.specs.Char.{is_ascii_digit}
+use Rattle.std.specs.Char.{is_ascii_digit, to_ascii_lowercase}
 use Rattle.std.proofs.lemmas.Bool.{eqb-true, and_parts}
 use Rattle.std.proofs.lemmas.Bool.Decides.{nat_tests}
 use Rattle.lemmas.proofs.Numbers.{eqb_swap}
 use Rattle.row_images.specs.Values.{is_lower_digit}
 use Rattle.row_images.proofs.Counts.{count_again, decimal_lacks}
 use Rattle.binlog_text.specs.Tokens.{after_prefix, cut_at, lacks, last_cut, ◌>>=◌}
-use Rattle.binlog_text.specs.Lines.{Column, Content, OfMark, OfHead, OfTable, OfColumn, OfGtid, OfSources, OfRow, OfValue, IsName, table_text, operation_text, rows_text, ends_statement, event_text, HasFlags, IsStamp, column_front, column_end, named_text, IsNamed, is_source, is_source_front, comma, IsWhole, begins, is_comment, is_setting, begins_setting, ends_setting, quotes_then, is_savepoint, is_frame, is_plain, is_flush, IsMark, IsLine}
+use Rattle.binlog_text.specs.Lines.{Column, Content, OfMark, OfHead, OfTable, OfColumn, OfGtid, OfSources, OfRow, OfValue, IsName, table_text, operation_text, rows_text, ends_statement, event_text, HasFlags, IsStamp, column_front, column_end, named_text, IsNamed, is_source, is_source_front, comma, IsWhole, begins, is_comment, is_setting, begins_setting, ends_setting, quotes_then, is_savepoint, is_frame, is_plain, is_flush, is_of_names, analyzes_or_optimizes, is_maintenance, IsMark, IsLine}
 use Rattle.binlog_text.specs.Reading.{branch, table_at, row_at, is_last_at, name_at, column, column_at, sources, sources_in, comment_line, table_map_at, content_at, line_of}
 use Rattle.binlog_text.specs.declared.lines.RowOperation.{RowOperation}
 use Rattle.binlog_text.specs.declared.lines.RowOperation.TheVariants as operations
@@ -115,7 +115,7 @@ frame_again text e = elim (either (bytes_eq text (codes "DELIMITER /*!*/;")) _ e
   ]
 ]
 
--- ---- flushes
+-- ---- maintenance
 
 abbrev NoFrame : List ℕ → Type 0
 NoFrame text = NoSetting text × (is_savepoint text ≡ false) × (is_frame text ≡ false)
@@ -126,10 +126,53 @@ flush_front text e = elim (either (begins (codes "FLUSH ") text) _ e) [
   | inr p ↦ fronted (codes "flush ") text NoFrame p (λ rest. (((refl, refl, refl, refl, refl, refl, refl, refl), refl), refl, refl))
 ]
 
-flush_again : (text : List ℕ) → is_flush text ≡ true → line_of text ≡ Some (OfMark marks.Flush)
-flush_again text e =
-    let parts = and_parts (begins (codes "FLUSH ") text || begins (codes "flush ") text) (list_all is_plain text) e in
-    let f = flush_front text parts.0 in
+picked : (b : Bool) (x y z : ℕ) → cond b x y ≡ z → (x ≡ z) ⊎ (y ≡ z)
+picked true x y z e = inl e
+picked false x y z e = inr e
+
+-- a byte that is this letter in lower case is one of two
+cased : (c low : ℕ) → 97 ≤ low → low ≤ 122 → eqb (to_ascii_lowercase c) low ≡ true → (c ≡ low) ⊎ (c + 32 ≡ low)
+cased c low from to e = elim (picked (nat_lt c 65) c _ low (eqb-true (to_ascii_lowercase c) low e)) [
+  | inl p ↦ inl p
+  | inr p ↦ elim (picked (nat_lt c 91) (c + 32) c low p) [
+    | inl q ↦ inr q
+    | inr q ↦ inl q
+  ]
+]
+
+-- a text that begins with a byte that is `a` or `o` in lower case
+word_front : (c low : ℕ) (rest : List ℕ) → 97 ≤ low → low ≤ 122 → eqb (to_ascii_lowercase c) low ≡ true → NoFrame (low ∷ rest) → NoFrame ((low - 32) ∷ rest) → NoFrame (c ∷ rest)
+word_front c low rest from to e lower upper = elim (cased c low from to e) [
+  | inl p ↦ subst (λ (x : ℕ). NoFrame (x ∷ rest)) (sym p) lower
+  | inr p ↦ let is : low - 32 ≡ c = omega arith in subst (λ (x : ℕ). NoFrame (x ∷ rest)) is upper
+]
+
+analyze_front : (word rest : List ℕ) → str_eq_ignore_ascii_case word (codes "ANALYZE") ≡ true → NoFrame (word ++ 32 ∷ rest)
+analyze_front [] rest e = absurd cc
+analyze_front (c ∷ cs) rest e = word_front c 97 (cs ++ 32 ∷ rest) (omega arith) (omega arith) (and_parts (eqb (to_ascii_lowercase c) 97) _ e).0
+    (((refl, refl, refl, refl, refl, refl, refl, refl), refl), refl, refl) (((refl, refl, refl, refl, refl, refl, refl, refl), refl), refl, refl)
+
+optimize_front : (word rest : List ℕ) → str_eq_ignore_ascii_case word (codes "OPTIMIZE") ≡ true → NoFrame (word ++ 32 ∷ rest)
+optimize_front [] rest e = absurd cc
+optimize_front (c ∷ cs) rest e = word_front c 111 (cs ++ 32 ∷ rest) (omega arith) (omega arith) (and_parts (eqb (to_ascii_lowercase c) 111) _ e).0
+    (((refl, refl, refl, refl, refl, refl, refl, refl), refl), refl, refl) (((refl, refl, refl, refl, refl, refl, refl, refl), refl), refl, refl)
+
+tables_front : (text : List ℕ) (o : Option (List ℕ × List ℕ)) → cut_at 32 text ≡ o → analyzes_or_optimizes o ≡ true → NoFrame text
+tables_front text None h e = absurd cc
+tables_front text (Some parts) h e = subst NoFrame (sym (cut_found 32 text parts h).parts) (elim (either (str_eq_ignore_ascii_case parts.0 (codes "ANALYZE")) _ e) [
+  | inl p ↦ analyze_front parts.0 parts.1 p
+  | inr p ↦ optimize_front parts.0 parts.1 p
+])
+
+maintenance_front : (text : List ℕ) → is_maintenance text ≡ true → NoFrame text
+maintenance_front text e = elim (either (is_flush text) _ e) [
+  | inl p ↦ flush_front text (and_parts (begins (codes "FLUSH ") text || begins (codes "flush ") text) (list_all is_plain text) p).0
+  | inr p ↦ tables_front text (cut_at 32 text) refl (and_parts (analyzes_or_optimizes (cut_at 32 text)) (list_all is_of_names text) p).0
+]
+
+maintenance_again : (text : List ℕ) → is_maintenance text ≡ true → line_of text ≡ Some (OfMark marks.Maintenance)
+maintenance_again text e =
+    let f = maintenance_front text e in
     let n = f.0.0 in
     rw (n.0, n.1, n.2, n.3, n.4, n.5, n.6, n.7, f.0.1, f.1, f.2, e) refl
 
@@ -184,7 +227,7 @@ mark_again marks.Comment text is = ap line_of is.1 ∙ comment_again is.0 is.2
 mark_again marks.Setting text is = setting_again text is
 mark_again marks.Frame text is = frame_again text is
 mark_again marks.Extra text is = ap line_of is.1
-mark_again marks.Flush text is = flush_again text is
+mark_again marks.Maintenance text is = maintenance_again text is
 
 -- ---- rows
 

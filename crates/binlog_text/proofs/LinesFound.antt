@@ -9,7 +9,7 @@ use Rattle.gtid_text.proofs.Turns.{chosen}
 use Rattle.row_images.specs.Words.{count_of}
 use Rattle.row_images.proofs.Counts.{count_found}
 use Rattle.binlog_text.specs.Tokens.{after_prefix, cut_at, nothing_in, last_cut, ◌>>=◌}
-use Rattle.binlog_text.specs.Lines.{Content, OfMark, OfGtid, OfSources, IsName, table_text, operation_text, rows_text, event_text, HasFlags, begins_with_digit, IsStamp, column_front, column_end, named_text, is_source, comma, IsWhole, begins, is_comment, is_setting, is_savepoint, is_frame, is_flush, IsLine}
+use Rattle.binlog_text.specs.Lines.{Content, OfMark, OfGtid, OfSources, IsName, table_text, operation_text, rows_text, event_text, HasFlags, begins_with_digit, IsStamp, column_front, column_end, named_text, is_source, comma, IsWhole, begins, is_comment, is_setting, is_savepoint, is_frame, is_maintenance, IsLine}
 use Rattle.binlog_text.specs.Reading.{branch, table_at, row_at, assignment_at, row_line, is_last_at, name_at, column, column_at, sources, sources_in, comment_line, table_map_at, rows_event, other_event, event_of, content_at, head_line, gtid_at, plain_line, line_of}
 use Rattle.binlog_text.specs.declared.lines.RowOperation.{RowOperation}
 use Rattle.binlog_text.specs.declared.lines.RowOperation.TheVariants as operations
@@ -325,7 +325,7 @@ plain_line_found text l e = elim (branch_found (codes "SET @@SESSION.GTID_NEXT= 
               | inl v ↦ subst (λ (m : Content). IsLine m text) (same_Some _ _ v.1) v.0
               | inr v ↦ elim (chosen (is_frame text) (Some (OfMark marks.Frame)) _ (Some l) v.1) [
                 | inl w ↦ subst (λ (m : Content). IsLine m text) (same_Some _ _ w.1) w.0
-                | inr w ↦ elim (chosen (is_flush text) (Some (OfMark marks.Flush)) None (Some l) w.1) [
+                | inr w ↦ elim (chosen (is_maintenance text) (Some (OfMark marks.Maintenance)) None (Some l) w.1) [
                   | inl x ↦ subst (λ (m : Content). IsLine m text) (same_Some _ _ x.1) x.0
                   | inr x ↦ absurd cc
                 ]

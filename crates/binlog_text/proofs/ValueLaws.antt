@@ -16,7 +16,7 @@ use Rattle.row_images.specs.declared.value.Value.{Value}
 use Rattle.row_images.specs.declared.value.Value.TheVariants.{Null, Int, Bytes}
 use Rattle.binlog_text.specs.Tokens.{after_prefix, cut_at, nothing_in, lacks}
 use Rattle.binlog_text.specs.Quoted.{unquote}
-use Rattle.binlog_text.specs.Values.{range_of, half_of, negative_text, signed_shown, unsigned_shown, number_shown, is_seconds, is_decimal, is_bit, int_shown, bytes_shown, shown_value, readings_at, agree, negative, large, below, signed_value, unsigned_value, bits_at, value_of_type, or_null, value_at}
+use Rattle.binlog_text.specs.Values.{range_of, half_of, negative_text, signed_shown, unsigned_shown, number_shown, is_seconds, is_decimal, is_bit, int_shown, bytes_shown, shown_value, readings_at, agree, negative, large, below, signed_value, unsigned_value, unsigned_at, large_shown, bits_at, value_of_type, or_null, value_at}
 use Rattle.binlog_text.specs.declared.types.IntegerType.{IntegerType}
 use Rattle.binlog_text.specs.declared.types.IntegerType.TheVariants as integers
 use Rattle.binlog_text.specs.declared.types.ColumnType.{ColumnType}
@@ -118,7 +118,7 @@ plain_signed : (t : IntegerType) (text : List ℕ) (n : ℕ) → count_of text �
 plain_signed t [] n e lt = absurd cc
 plain_signed t (b ∷ bs) n e lt = rw (not_negative b bs n e, e, below_test n (half_of t) lt) refl
 
-plain_unsigned : (t : IntegerType) (text : List ℕ) (n : ℕ) → count_of text ≡ Some n → n < half_of t → unsigned_value t text ≡ Some (pos n)
+plain_unsigned : (t : IntegerType) (text : List ℕ) (n : ℕ) → count_of text ≡ Some n → n < half_of t → unsigned_at t text ≡ Some (Int (pos n))
 plain_unsigned t [] n e lt = absurd cc
 plain_unsigned t (b ∷ bs) n e lt = rw (not_negative b bs n e, e, below_test n (half_of t) lt) refl
 
@@ -142,36 +142,46 @@ signed_again t (negsuc n) text e = elim (chosen (nat_lt n (half_of t)) (Some (ne
       (ap (negative t) read ∙ rw fit (ap (λ (m : ℕ). Some (negsuc m)) back))
 ]
 
-large_is : (t : IntegerType) (bs : List ℕ) (o : Option (ℕ × ℕ)) (z : ℤ) → readings_at bs ≡ o → large t o ≡ Some z → unsigned_shown t z ≡ Some (45 ∷ bs)
-large_is t bs None z e f = absurd cc
-large_is t bs (Some r) z e f = elim (chosen (agree t r.0 r.1 && nat_lt r.1 (2 ^ 63)) (Some (pos r.1)) None (Some z) f) [
+-- both readings of a number without a sign show its value, as a number below 2 ^ 63 or else by its digits
+large_shows : (t : IntegerType) (bs : List ℕ) (r : ℕ × ℕ) (is_small : Bool) → nat_lt r.1 (2 ^ 63) ≡ is_small → agree t r.0 r.1 ≡ true → Readings bs r → shown_value (types.Unsigned t) (unsigned_value r.1) ≡ Some (45 ∷ bs)
+large_shows t bs r true small agrees read =
+    let fit = agreed (half_of t) r.0 r.1 agrees in
+    let rest : range_of t - r.1 ≡ r.0 = omega (arith, fit.2) in
+    let past : nat_lt r.1 (half_of t) ≡ false = lt_false r.1 (half_of t) (omega (arith, fit.1, fit.2)) in
+    let within : nat_lt r.1 (range_of t) ≡ true = below_test r.1 (range_of t) (omega (arith, fit.0, fit.2)) in
+    rw (small, past, within, small, rest) (ap (λ (xs : List ℕ). Some (45 ∷ xs)) (sym read.text))
+large_shows t bs r false beyond agrees read =
+    let fit = agreed (half_of t) r.0 r.1 agrees in
+    let rest : range_of t - r.1 ≡ r.0 = omega (arith, fit.2) in
+    let past : nat_le (2 ^ 63) r.1 ≡ true = grind (arith, nat_tests) in
+    let within : nat_lt r.1 (range_of t) ≡ true = below_test r.1 (range_of t) (omega (arith, fit.0, fit.2)) in
+    rw (beyond, count_again r.1 read.above, past, within, rest) (ap (λ (xs : List ℕ). Some (45 ∷ xs)) (sym read.text))
+
+large_is : (t : IntegerType) (bs : List ℕ) (o : Option (ℕ × ℕ)) (v : Value) → readings_at bs ≡ o → large t o ≡ Some v → shown_value (types.Unsigned t) v ≡ Some (45 ∷ bs)
+large_is t bs None v e f = absurd cc
+large_is t bs (Some r) v e f = elim (chosen (agree t r.0 r.1) (Some (unsigned_value r.1)) None (Some v) f) [
   | inr p ↦ absurd cc
-  | inl p ↦
-      let parts = and_parts (agree t r.0 r.1) (nat_lt r.1 (2 ^ 63)) p.0 in
-      let fit = agreed (half_of t) r.0 r.1 parts.0 in
-      let read = readings_found bs r e in
-      let rest : range_of t - r.1 ≡ r.0 = omega (arith, fit.2) in
-      let past : nat_lt r.1 (half_of t) ≡ false = lt_false r.1 (half_of t) (omega (arith, fit.1, fit.2)) in
-      let within : nat_lt r.1 (range_of t) ≡ true = below_test r.1 (range_of t) (omega (arith, fit.0, fit.2)) in
-      subst (λ (y : ℤ). unsigned_shown t y ≡ Some (45 ∷ bs)) (same_Some _ _ p.1)
-      (rw (past, within, parts.1, rest) (ap (λ (xs : List ℕ). Some (45 ∷ xs)) (sym read.text)))
+  | inl p ↦ subst (λ (w : Value). shown_value (types.Unsigned t) w ≡ Some (45 ∷ bs)) (same_Some _ _ p.1)
+      (large_shows t bs r (nat_lt r.1 (2 ^ 63)) refl p.0 (readings_found bs r e))
 ]
 
-unsigned_found : (t : IntegerType) (text : List ℕ) (z : ℤ) → unsigned_value t text ≡ Some z → unsigned_shown t z ≡ Some text
-unsigned_found t [] z e = absurd cc
-unsigned_found t (b ∷ bs) z e = elim (chosen (eqb b 45) (large t (readings_at bs)) _ (Some z) e) [
-  | inl p ↦ large_is t bs (readings_at bs) z refl p.1 ∙ ap (λ (c : ℕ). Some (c ∷ bs)) (sym (eqb-true b 45 p.0))
+unsigned_found : (t : IntegerType) (text : List ℕ) (v : Value) → unsigned_at t text ≡ Some v → shown_value (types.Unsigned t) v ≡ Some text
+unsigned_found t [] v e = absurd cc
+unsigned_found t (b ∷ bs) v e = elim (chosen (eqb b 45) (large t (readings_at bs)) _ (Some v) e) [
+  | inl p ↦ large_is t bs (readings_at bs) v refl p.1 ∙ ap (λ (c : ℕ). Some (c ∷ bs)) (sym (eqb-true b 45 p.0))
   | inr p ↦
-      let n = below_found (half_of t) (b ∷ bs) (count_of (b ∷ bs)) z refl p.1 in
-      subst (λ (y : ℤ). unsigned_shown t y ≡ Some (b ∷ bs)) (sym n.1) (rw (below_test n.0 (half_of t) n.2) (ap Some (sym n.3)))
+      let m = mapped Int (below (half_of t) (count_of (b ∷ bs))) v p.1 in
+      let n = below_found (half_of t) (b ∷ bs) (count_of (b ∷ bs)) m.0 refl m.1 in
+      subst (λ (w : Value). shown_value (types.Unsigned t) w ≡ Some (b ∷ bs)) m.2
+      (subst (λ (y : ℤ). unsigned_shown t y ≡ Some (b ∷ bs)) (sym n.1) (rw (below_test n.0 (half_of t) n.2) (ap Some (sym n.3))))
 ]
 
-unsigned_again : (t : IntegerType) (z : ℤ) (text : List ℕ) → unsigned_shown t z ≡ Some text → unsigned_value t text ≡ Some z
+unsigned_again : (t : IntegerType) (z : ℤ) (text : List ℕ) → unsigned_shown t z ≡ Some text → unsigned_at t text ≡ Some (Int z)
 unsigned_again t (negsuc n) text e = absurd cc
 unsigned_again t (pos n) text e = elim (chosen (nat_lt n (half_of t)) (Some (decimal n)) _ (Some text) e) [
   | inl p ↦
       let lt = lt_of_test n (half_of t) p.0 in
-      subst (λ (xs : List ℕ). unsigned_value t xs ≡ Some (pos n)) (same_Some _ _ p.1)
+      subst (λ (xs : List ℕ). unsigned_at t xs ≡ Some (Int (pos n))) (same_Some _ _ p.1)
       (plain_unsigned t (decimal n) n (count_again n (omega (arith, lt, half_fits t))) lt)
   | inr p ↦ elim (chosen (nat_lt n (range_of t) && nat_lt n (2 ^ 63)) (Some (negative_text (range_of t - n) n)) None (Some text) p.1) [
     | inr q ↦ absurd cc
@@ -183,9 +193,27 @@ unsigned_again t (pos n) text e = elim (chosen (nat_lt n (half_of t)) (Some (dec
         let half = half_fits t in
         let read : readings_at (decimal (range_of t - n) ++ 32 ∷ 40 ∷ (decimal n ++ 41 ∷ [])) ≡ Some (range_of t - n, n) = readings_again (range_of t - n) n (omega (arith, past, half)) (omega (arith, small)) in
         let fit : agree t (range_of t - n) n ≡ true = agrees (half_of t) (range_of t - n) n (omega (arith, within)) (omega (arith, past)) (omega (arith, within)) in
-        subst (λ (xs : List ℕ). unsigned_value t xs ≡ Some (pos n)) (same_Some _ _ q.1)
+        subst (λ (xs : List ℕ). unsigned_at t xs ≡ Some (Int (pos n))) (same_Some _ _ q.1)
         (ap (large t) read ∙ rw (fit, parts.1) refl)
   ]
+]
+
+-- the digits of a number from 2 ^ 63 on are read of what is printed for it
+large_again : (t : IntegerType) (bs : List ℕ) (o : Option ℕ) (text : List ℕ) → count_of bs ≡ o → large_shown t o ≡ Some text → unsigned_at t text ≡ Some (Bytes bs)
+large_again t bs None text e f = absurd cc
+large_again t bs (Some n) text e f = elim (chosen (nat_le (2 ^ 63) n && nat_lt n (range_of t)) (Some (negative_text (range_of t - n) n)) None (Some text) f) [
+  | inr p ↦ absurd cc
+  | inl p ↦
+      let parts = and_parts (nat_le (2 ^ 63) n) (nat_lt n (range_of t)) p.0 in
+      let found = count_found bs n e in
+      let within = lt_of_test n (range_of t) parts.1 in
+      let past : 2 ^ 63 ≤ n = grind (arith, nat_tests) in
+      let beyond : nat_lt n (2 ^ 63) ≡ false = lt_false n (2 ^ 63) past in
+      let half = half_fits t in
+      let read : readings_at (decimal (range_of t - n) ++ 32 ∷ 40 ∷ (decimal n ++ 41 ∷ [])) ≡ Some (range_of t - n, n) = readings_again (range_of t - n) n (omega (arith, past, half)) found.1 in
+      let fit : agree t (range_of t - n) n ≡ true = agrees (half_of t) (range_of t - n) n (omega (arith, within)) (omega (arith, past, half)) (omega (arith, within)) in
+      subst (λ (xs : List ℕ). unsigned_at t xs ≡ Some (Bytes bs)) (same_Some _ _ p.1)
+      (ap (large t) read ∙ rw (fit, beyond) (ap (λ (xs : List ℕ). Some (Bytes xs)) (sym found.0)))
 ]
 
 number_found : (text : List ℕ) (z : ℤ) → below (2 ^ 63) (count_of text) ≡ Some z → number_shown z ≡ Some text
@@ -239,7 +267,7 @@ tested false text v e = absurd cc
 
 typed_found : (type : ColumnType) (text : List ℕ) (v : Value) → value_of_type type text ≡ Some v → shown_value type v ≡ Some text
 typed_found (types.Signed t) text v e = let m = mapped Int (signed_value t text) v e in subst (λ (w : Value). shown_value (types.Signed t) w ≡ Some text) m.2 (signed_found t text m.0 m.1)
-typed_found (types.Unsigned t) text v e = let m = mapped Int (unsigned_value t text) v e in subst (λ (w : Value). shown_value (types.Unsigned t) w ≡ Some text) m.2 (unsigned_found t text m.0 m.1)
+typed_found (types.Unsigned t) text v e = unsigned_found t text v e
 typed_found types.Number text v e = let m = mapped Int (below (2 ^ 63) (count_of text)) v e in subst (λ (w : Value). shown_value types.Number w ≡ Some text) m.2 (number_found text m.0 m.1)
 typed_found types.Decimal text v e = let m = tested (is_decimal text) text v e in subst (λ (w : Value). shown_value types.Decimal w ≡ Some text) m.1 (rw m.0 refl)
 typed_found types.Seconds text v e = let m = tested (is_seconds text) text v e in subst (λ (w : Value). shown_value types.Seconds w ≡ Some text) m.1 (rw m.0 refl)
@@ -276,7 +304,7 @@ null_again type text e = subst (λ (xs : List ℕ). value_at type xs ≡ Some Nu
 
 int_again : (type : ColumnType) (z : ℤ) (text : List ℕ) → int_shown type z ≡ Some text → value_of_type type text ≡ Some (Int z)
 int_again (types.Signed t) z text e = ap (option_map Int) (signed_again t z text e)
-int_again (types.Unsigned t) z text e = ap (option_map Int) (unsigned_again t z text e)
+int_again (types.Unsigned t) z text e = unsigned_again t z text e
 int_again types.Number z text e = ap (option_map Int) (number_again z text e)
 int_again types.Decimal z text e = absurd cc
 int_again types.Seconds z text e = absurd cc
@@ -289,7 +317,7 @@ passed false bs text e = absurd cc
 
 bytes_again : (type : ColumnType) (bs text : List ℕ) → bytes_shown type bs ≡ Some text → value_of_type type text ≡ Some (Bytes bs)
 bytes_again (types.Signed t) bs text e = absurd cc
-bytes_again (types.Unsigned t) bs text e = absurd cc
+bytes_again (types.Unsigned t) bs text e = large_again t bs (count_of bs) text refl e
 bytes_again types.Number bs text e = absurd cc
 bytes_again types.Decimal bs text e = let p = passed (is_decimal bs) bs text e in subst (λ (xs : List ℕ). value_of_type types.Decimal xs ≡ Some (Bytes bs)) p.1 (rw p.0 refl)
 bytes_again types.Seconds bs text e = let p = passed (is_seconds bs) bs text e in subst (λ (xs : List ℕ). value_of_type types.Seconds xs ≡ Some (Bytes bs)) p.1 (rw p.0 refl)

@@ -1,8 +1,8 @@
 -- The lines of mysqlbinlog's text, each by itself.
 use Rattle.std.specs.Prelude.{◌≡◌, ℕ, ◌^◌, ◌<◌, ◌==◌, ◌&&◌, ◌||◌, Bool, true, false, List, [], ◌∷◌, ◌++◌, length, Option, Some, None, is_some, codes, decimal, nat_eq}
 use Rattle.std.specs.List.{list_all, ends_with}
-use Rattle.std.specs.Char.{is_ascii_digit, is_ascii_alphabetic}
-use Rattle.std.specs.Str.{bytes_eq}
+use Rattle.std.specs.Char.{is_ascii_digit, is_ascii_alphabetic, is_ascii_alphanumeric}
+use Rattle.std.specs.Str.{bytes_eq, str_eq_ignore_ascii_case}
 use Rattle.row_images.specs.Values.{is_lower_digit}
 use Rattle.binlog_text.specs.Tokens.{after_prefix, cut_at, lacks}
 use Rattle.binlog_text.specs.declared.lines.RowOperation.{RowOperation}
@@ -171,9 +171,26 @@ is_savepoint text = quotes_then [] (after_prefix (codes "SAVEPOINT `") text)
 abbrev pub is_plain : ℕ → Bool
 is_plain b = is_ascii_alphabetic b || (b == 32 || b == 95)
 
--- a statement that flushes, of letters, blanks and underscores alone: it has no effect on rows
+-- a statement that flushes, of letters, blanks and underscores alone
 abbrev pub is_flush : List ℕ → Bool
 is_flush text = (begins (codes "FLUSH ") text || begins (codes "flush ") text) && list_all is_plain text
+
+-- a letter or a digit, or a byte of `_$-.,`, a blank or a backquote
+abbrev pub is_of_names : ℕ → Bool
+is_of_names b = is_ascii_alphanumeric b || (b == 95 || (b == 36 || (b == 45 || (b == 46 || (b == 44 || (b == 32 || b == 96))))))
+
+-- the first of two parts is one of the words ANALYZE and OPTIMIZE, in any letter case
+abbrev pub analyzes_or_optimizes : Option (List ℕ × List ℕ) → Bool
+analyzes_or_optimizes None = false
+analyzes_or_optimizes (Some parts) = str_eq_ignore_ascii_case parts.0 (codes "ANALYZE") || str_eq_ignore_ascii_case parts.0 (codes "OPTIMIZE")
+
+-- ANALYZE or OPTIMIZE of tables by their names alone
+abbrev pub is_of_tables : List ℕ → Bool
+is_of_tables text = analyzes_or_optimizes (cut_at 32 text) && list_all is_of_names text
+
+-- a statement of maintenance: it has no effect on rows, and stops no replica
+abbrev pub is_maintenance : List ℕ → Bool
+is_maintenance text = is_flush text || is_of_tables text
 
 abbrev pub is_frame : List ℕ → Bool
 is_frame text =
@@ -203,7 +220,7 @@ IsMark marks.Comment line = (rest : List ℕ) × (line ≡ codes "# " ++ rest) �
 IsMark marks.Setting line = is_setting line ≡ true
 IsMark marks.Frame line = is_frame line ≡ true
 IsMark marks.Extra line = (rest : List ℕ) × (line ≡ codes "### Extra row info for partitioning: " ++ rest)
-IsMark marks.Flush line = is_flush line ≡ true
+IsMark marks.Maintenance line = is_maintenance line ≡ true
 
 -- this is the content of the line
 abbrev pub IsLine : Content → List ℕ → Type 0

@@ -3,7 +3,7 @@ use Rattle.std.specs.Prelude.{ℕ, ◌==◌, Bool, true, false, ◌∷◌, [], L
 use Rattle.std.specs.Str.{bytes_eq}
 use Rattle.row_images.specs.Words.{count_of}
 use Rattle.binlog_text.specs.Tokens.{after_prefix, cut_at, last_cut, nothing_in, ◌>>=◌}
-use Rattle.binlog_text.specs.Lines.{Content, OfMark, OfHead, OfTable, OfColumn, OfGtid, OfSources, OfRow, OfValue, event_text, rows_text, ends_statement, operation_text, begins_with_digit, begins, is_comment, is_source, is_setting, is_savepoint, is_frame, is_flush}
+use Rattle.binlog_text.specs.Lines.{Content, OfMark, OfHead, OfTable, OfColumn, OfGtid, OfSources, OfRow, OfValue, event_text, rows_text, ends_statement, operation_text, begins_with_digit, begins, is_comment, is_source, is_setting, is_savepoint, is_frame, is_maintenance}
 use Rattle.binlog_text.specs.declared.lines.RowOperation.{RowOperation}
 use Rattle.binlog_text.specs.declared.lines.RowOperation.TheVariants as operations
 use Rattle.binlog_text.specs.declared.lines.LogEvent.{LogEvent}
@@ -152,7 +152,7 @@ plain_line text =
     else if is_setting text then Some (OfMark marks.Setting)
     else if is_savepoint text then Some (OfMark marks.Savepoint)
     else if is_frame text then Some (OfMark marks.Frame)
-    else if is_flush text then Some (OfMark marks.Flush)
+    else if is_maintenance text then Some (OfMark marks.Maintenance)
     else None)
 
 -- the content of a line

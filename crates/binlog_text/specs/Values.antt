@@ -35,13 +35,22 @@ abbrev pub signed_shown : IntegerType → ℤ → Option (List ℕ)
 signed_shown t (pos n) = if nat_lt n (half_of t) then Some (decimal n) else None
 signed_shown t (negsuc n) = if nat_lt n (half_of t) then Some (negative_text (n + 1) (range_of t - (n + 1))) else None
 
--- a number from 2 ^ 63 on is none of ours
+-- the value of a number without a sign: from 2 ^ 63 on, where a row has no number, the bytes of its decimal digits
+abbrev pub unsigned_value : ℕ → Value
+unsigned_value n = if nat_lt n (2 ^ 63) then Int (pos n) else Bytes (decimal n)
+
+-- a number without a sign, below 2 ^ 63
 abbrev pub unsigned_shown : IntegerType → ℤ → Option (List ℕ)
 unsigned_shown t (pos n) =
     if nat_lt n (half_of t) then Some (decimal n)
     else if nat_lt n (range_of t) && nat_lt n (2 ^ 63) then Some (negative_text (range_of t - n) n)
     else None
 unsigned_shown t (negsuc n) = None
+
+-- one from 2 ^ 63 on, by its digits
+abbrev pub large_shown : IntegerType → Option ℕ → Option (List ℕ)
+large_shown t None = None
+large_shown t (Some n) = if nat_le (2 ^ 63) n && nat_lt n (range_of t) then Some (negative_text (range_of t - n) n) else None
 
 abbrev pub number_shown : ℤ → Option (List ℕ)
 number_shown (pos n) = if nat_lt n (2 ^ 63) then Some (decimal n) else None
@@ -82,7 +91,7 @@ int_shown types.Quoted z = None
 
 abbrev pub bytes_shown : ColumnType → List ℕ → Option (List ℕ)
 bytes_shown (types.Signed t) bs = None
-bytes_shown (types.Unsigned t) bs = None
+bytes_shown (types.Unsigned t) bs = large_shown t (count_of bs)
 bytes_shown types.Number bs = None
 bytes_shown types.Decimal bs = if is_decimal bs then Some bs else None
 bytes_shown types.Seconds bs = if is_seconds bs then Some bs else None
@@ -116,9 +125,9 @@ abbrev pub negative : IntegerType → Option (ℕ × ℕ) → Option ℤ
 negative t None = None
 negative t (Some r) = if agree t r.0 r.1 then Some (negsuc (r.0 - 1)) else None
 
-abbrev pub large : IntegerType → Option (ℕ × ℕ) → Option ℤ
+abbrev pub large : IntegerType → Option (ℕ × ℕ) → Option Value
 large t None = None
-large t (Some r) = if agree t r.0 r.1 && nat_lt r.1 (2 ^ 63) then Some (pos r.1) else None
+large t (Some r) = if agree t r.0 r.1 then Some (unsigned_value r.1) else None
 
 -- a number below a limit
 abbrev pub below : ℕ → Option ℕ → Option ℤ
@@ -129,9 +138,9 @@ abbrev pub signed_value : IntegerType → List ℕ → Option ℤ
 signed_value t [] = None
 signed_value t (b ∷ bs) = if b == 45 then negative t (readings_at bs) else below (half_of t) (count_of (b ∷ bs))
 
-abbrev pub unsigned_value : IntegerType → List ℕ → Option ℤ
-unsigned_value t [] = None
-unsigned_value t (b ∷ bs) = if b == 45 then large t (readings_at bs) else below (half_of t) (count_of (b ∷ bs))
+abbrev pub unsigned_at : IntegerType → List ℕ → Option Value
+unsigned_at t [] = None
+unsigned_at t (b ∷ bs) = if b == 45 then large t (readings_at bs) else option_map Int (below (half_of t) (count_of (b ∷ bs)))
 
 abbrev pub bits_at : List ℕ → Option (List ℕ)
 bits_at text = do
@@ -143,7 +152,7 @@ bits_at text = do
 -- what a value other than NULL is read as
 abbrev pub value_of_type : ColumnType → List ℕ → Option Value
 value_of_type (types.Signed t) text = option_map Int (signed_value t text)
-value_of_type (types.Unsigned t) text = option_map Int (unsigned_value t text)
+value_of_type (types.Unsigned t) text = unsigned_at t text
 value_of_type types.Number text = option_map Int (below (2 ^ 63) (count_of text))
 value_of_type types.Decimal text = if is_decimal text then Some (Bytes text) else None
 value_of_type types.Seconds text = if is_seconds text then Some (Bytes text) else None

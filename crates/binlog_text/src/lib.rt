@@ -9,7 +9,7 @@
 //! mysqlbinlog prints of it (`shown_value`): whole numbers by both readings, which must agree; DECIMAL and TIMESTAMP by their digits; BIT
 //! and SET by their bits; strings and times by the bytes between the quotes, which have one spelling (`unquote`).
 //!
-//! Not read: FLOAT, DOUBLE, JSON, GEOMETRY and VECTOR, whose values are not printed whole; numbers from 2^63; names with a backquote or
+//! Not read: FLOAT, DOUBLE, JSON, GEOMETRY and VECTOR, whose values are not printed whole; names with a backquote or
 //! line feed.
 //!
 //! `compares_bytes` decides whether the server takes two values of a column for equal if and only if their bytes are. `collation_in` is the
@@ -20,6 +20,7 @@
 #![tactic(auto)]
 
 mod lines;
+mod maintenance;
 mod quoted;
 mod reading;
 mod tokens;

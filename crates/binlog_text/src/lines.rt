@@ -56,8 +56,8 @@ pub enum Mark {
     Frame,
     /// `### Extra row info for partitioning: ..`: the partitions of a rows event.
     Extra,
-    /// A statement that flushes: it has no effect on rows.
-    Flush,
+    /// A statement of maintenance (FLUSH, ANALYZE, OPTIMIZE): it has no effect on rows.
+    Maintenance,
 }
 
 /// A line of mysqlbinlog's text, with the bytes that it holds.

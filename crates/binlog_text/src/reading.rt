@@ -3,11 +3,12 @@ ghost use Rattle.std.specs.Prelude.{◌≡◌, ℕ, List, Some, IfSome, option_m
 ghost use Rattle.std.specs.List.{list_all};
 ghost use Rattle.row_images.specs.Values.{is_lower_digit};
 ghost use Rattle.binlog_text.specs.Tokens.{last_cut};
-ghost use Rattle.binlog_text.specs.Lines.{Content, IsLine, is_comment, is_source, is_setting, is_savepoint, is_frame, is_plain, is_flush, ends_statement, begins_setting, quotes_then, event_text, begins_with_digit, begins};
+ghost use Rattle.binlog_text.specs.Lines.{Content, IsLine, is_comment, is_source, is_setting, is_savepoint, is_frame, ends_statement, begins_setting, quotes_then, event_text, begins_with_digit, begins};
 ghost use Rattle.binlog_text.specs.Reading.{table_at, row_at, assignment_at, row_line, is_last_at, name_at, column_at, sources, sources_in, comment_line, table_map_at, rows_event, other_event, event_of, content_at, head_line, gtid_at, plain_line, line_of};
 ghost use Rattle.binlog_text.specs.Contents.{content_of};
 
 use crate::lines::{Column, LogEvent, LogLine, Mark, RowOperation};
+use crate::maintenance::is_maintenance;
 use crate::tokens::{after_prefix, cut_at};
 use row_images::count;
 
@@ -377,19 +378,6 @@ fn is_savepoint(text: &[u8]) -> bool
     quotes_then(after_prefix(text, b"SAVEPOINT `"), b"")
 }
 
-fn are_plain(text: &[u8]) -> bool
-    ensures { result ≡ list_all is_plain text.now }
-{
-    text.iter()
-        .all(|b| b.is_ascii_alphabetic() || *b == b' ' || *b == b'_')
-}
-
-fn is_flush(text: &[u8]) -> bool
-    ensures { result ≡ is_flush text.now }
-{
-    (begins(text, b"FLUSH ") || begins(text, b"flush ")) && are_plain(text)
-}
-
 fn is_frame(text: &[u8]) -> bool
     ensures { result ≡ is_frame text.now }
 {
@@ -446,8 +434,8 @@ fn plain_line(text: &[u8]) -> Option<LogLine<'_>>
     if is_frame(text) {
         return Some(LogLine::Mark(Mark::Frame));
     }
-    if is_flush(text) {
-        return Some(LogLine::Mark(Mark::Flush));
+    if is_maintenance(text) {
+        return Some(LogLine::Mark(Mark::Maintenance));
     }
     None
 }

@@ -4,11 +4,12 @@ ghost use Rattle.std.specs.List.{list_all};
 ghost use Rattle.std.specs.Char.{is_ascii_digit};
 ghost use Rattle.row_images.specs.declared.value.Value.TheVariants as Cell;
 ghost use Rattle.row_images.specs.declared.value.Value.{Value};
-ghost use Rattle.binlog_text.specs.Values.{range_of, half_of, are_digits, is_seconds, is_decimal, is_bit, readings_at, agree, negative, large, below, signed_value, unsigned_value, bits_at, value_of_type, value_at, shown_value};
+ghost use Rattle.binlog_text.specs.Values.{range_of, half_of, are_digits, is_seconds, is_decimal, is_bit, readings_at, agree, negative, large, below, signed_value, unsigned_value, unsigned_at, bits_at, value_of_type, value_at, shown_value};
 
 use crate::quoted::unquote;
 use crate::tokens::{after_prefix, cut_at};
 use crate::types::{ColumnType, IntegerType};
+use itoa::Buffer;
 use row_images::{count, is_count};
 use rows::{ByteString, Value};
 use std::alloc::{AllocError, Global};
@@ -80,17 +81,33 @@ fn negative(integer: IntegerType, readings: Option<(u64, u64)>) -> Option<i64>
     }
 }
 
-/// The number without a sign that two readings are of.
-fn large(integer: IntegerType, readings: Option<(u64, u64)>) -> Option<i64>
-    ensures { result ≡ large integer readings }
+/// The value of a number without a sign: from 2^63 on, the bytes of its decimal digits.
+fn unsigned_value(alloc: Global, number: u64) -> Result<Value, AllocError>
+    ensures { IfOk result (λ value. value ≡ unsigned_value number) }
+{
+    if number < 0x8000_0000_0000_0000 {
+        return Ok(Value::Int(number as i64));
+    }
+    let mut digits = Buffer::new();
+    let text = digits.format(number).as_bytes();
+    Ok(Value::Bytes(ByteString::from_slice(alloc, text)?))
+}
+
+/// The value of the number without a sign that two readings are of.
+fn large(
+    alloc: Global,
+    integer: IntegerType,
+    readings: Option<(u64, u64)>,
+) -> Result<Option<Value>, AllocError>
+    ensures { IfOk result (λ found. found ≡ large integer readings) }
 {
     let Some((below, above)) = readings else {
-        return None;
+        return Ok(None);
     };
     if !integer.agree(below, above) {
-        return None;
+        return Ok(None);
     }
-    i64::try_from(above).ok()
+    Ok(Some(unsigned_value(alloc, above)?))
 }
 
 /// A number below a limit.
@@ -117,13 +134,17 @@ fn signed_value(integer: IntegerType, text: &[u8]) -> Option<i64>
     }
 }
 
-fn unsigned_value(integer: IntegerType, text: &[u8]) -> Option<i64>
-    ensures { result ≡ unsigned_value integer text.now }
+fn unsigned_at(
+    alloc: Global,
+    integer: IntegerType,
+    text: &[u8],
+) -> Result<Option<Value>, AllocError>
+    ensures { IfOk result (λ found. found ≡ unsigned_at integer text.now) }
 {
     match text {
-        [] => None,
-        [b'-', rest @ ..] => large(integer, readings(rest)),
-        _ => below(integer.half(), count(text)),
+        [] => Ok(None),
+        [b'-', rest @ ..] => large(alloc, integer, readings(rest)),
+        _ => Ok(int_value(below(integer.half(), count(text)))),
     }
 }
 
@@ -203,7 +224,7 @@ fn value_of_type(
 {
     match column {
         ColumnType::Signed(integer) => Ok(int_value(signed_value(integer, text))),
-        ColumnType::Unsigned(integer) => Ok(int_value(unsigned_value(integer, text))),
+        ColumnType::Unsigned(integer) => unsigned_at(alloc, integer, text),
         ColumnType::Number => Ok(int_value(below(0x8000_0000_0000_0000, count(text)))),
         ColumnType::Decimal if is_decimal(text) => copy_text(alloc, text),
         ColumnType::Seconds if is_seconds(text) => copy_text(alloc, text),

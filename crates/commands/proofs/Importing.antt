@@ -1,6 +1,7 @@
 -- What is written for a text that is imported, and for one that is refused.
 use Rattle.std.proofs.Common.{◌≡◌, Bool, ℕ, List, refl, inl, inr, subst, sym}
 use Rattle.std.specs.Prelude.{Result, Ok, Err, IfOk, OnOk, None}
+use Rattle.gtid_set.specs.Sets.{Gtids}
 use Rattle.txn_journal.specs.BundleStates.{BundleValue}
 use Rattle.binlog_bundle.specs.Weighed.{ImportsLogs, IsNoImportOfLogs}
 use Rattle.binlog_bundle.specs.declared.fault.BundleFault.{BundleFault}
@@ -40,25 +41,25 @@ refused_by none reports is_explained text refusal (Ok held) is n holds e line = 
 }
 refused_by none reports is_explained text refusal (Err f) is n holds e line = tt
 
-pub imported_so : (grants : Grants) (is_explained : Bool) (text : List ℕ) (b : BundleValue) (notes : List ℕ) (r : Result Report RunFault) → ImportsLogs grants texts text b notes
-    → IfOk r (λ held. Holds held.answer (text_answer Three b)) → IfOk r (λ held. held.notes.items ≡ notes) → IfOk r (HoldsReport (Imports grants is_explained) text)
-imported_so grants is_explained text b notes r = imported_by (ImportsLogs grants texts text) (Imports grants is_explained) text b notes r (λ p n it. inl it)
+pub imported_so : (accepted : Gtids) (grants : Grants) (is_explained : Bool) (text : List ℕ) (b : BundleValue) (notes : List ℕ) (r : Result Report RunFault) → ImportsLogs grants (texts accepted) text b notes
+    → IfOk r (λ held. Holds held.answer (text_answer Three b)) → IfOk r (λ held. held.notes.items ≡ notes) → IfOk r (HoldsReport (Imports accepted grants is_explained) text)
+imported_so accepted grants is_explained text b notes r = imported_by (ImportsLogs grants (texts accepted) text) (Imports accepted grants is_explained) text b notes r (λ p n it. inl it)
 
-pub refused_so : (grants : Grants) (is_explained : Bool) (text : List ℕ) (fault : BundleFault) (refusal : Refusal) (r : Result Report RunFault) → IsNoImportOfLogs grants texts fault text
+pub refused_so : (accepted : Gtids) (grants : Grants) (is_explained : Bool) (text : List ℕ) (fault : BundleFault) (refusal : Refusal) (r : Result Report RunFault) → IsNoImportOfLogs grants (texts accepted) fault text
     → refusal ≡ bundle_refused fault
     → IfOk r (λ held. Holds held.answer silent_refusal) → IfOk r (λ held. held.notes.items ≡ refusal_notes is_explained text refusal) → OnOk r (HasLine refusal)
-    → IfOk r (HoldsReport (Imports grants is_explained) text)
-refused_so grants is_explained text fault refusal r none is =
-    refused_by (IsOfFault (λ f. IsNoImportOfLogs grants texts f text)) (Imports grants is_explained) is_explained text refusal r (λ p n it. inr it) (fault, none, is)
+    → IfOk r (HoldsReport (Imports accepted grants is_explained) text)
+refused_so accepted grants is_explained text fault refusal r none is =
+    refused_by (IsOfFault (λ f. IsNoImportOfLogs grants (texts accepted) f text)) (Imports accepted grants is_explained) is_explained text refusal r (λ p n it. inr it) (fault, none, is)
 
 -- ---- with files
 
-pub filed_so : (grants : Grants) (is_explained : Bool) (logs : List ChannelFiles) (text : List ℕ) (b : BundleValue) (notes : List ℕ) (r : Result Report RunFault) → ImportsLogs grants (log_files logs) text b notes
+pub filed_so : (accepted : Gtids) (grants : Grants) (is_explained : Bool) (logs : List ChannelFiles) (text : List ℕ) (b : BundleValue) (notes : List ℕ) (r : Result Report RunFault) → ImportsLogs grants (log_files accepted logs) text b notes
     → unnamed logs b.channels ≡ None
-    → IfOk r (λ held. Holds held.answer (text_answer Three b)) → IfOk r (λ held. held.notes.items ≡ notes) → IfOk r (HoldsReport (ImportsWithFiles logs grants is_explained) text)
-filed_so grants is_explained logs text b notes r i u = imported_by (ImportsAll grants logs text) (ImportsWithFiles logs grants is_explained) text b notes r (λ p n it. inl it) (i, u)
+    → IfOk r (λ held. Holds held.answer (text_answer Three b)) → IfOk r (λ held. held.notes.items ≡ notes) → IfOk r (HoldsReport (ImportsWithFiles accepted logs grants is_explained) text)
+filed_so accepted grants is_explained logs text b notes r i u = imported_by (ImportsAll accepted grants logs text) (ImportsWithFiles accepted logs grants is_explained) text b notes r (λ p n it. inl it) (i, u)
 
-pub unnamed_so : (grants : Grants) (is_explained : Bool) (logs : List ChannelFiles) (text : List ℕ) (refusal : Refusal) (r : Result Report RunFault) → IsFilesRefusal grants logs text refusal
+pub unnamed_so : (accepted : Gtids) (grants : Grants) (is_explained : Bool) (logs : List ChannelFiles) (text : List ℕ) (refusal : Refusal) (r : Result Report RunFault) → IsFilesRefusal accepted grants logs text refusal
     → IfOk r (λ held. Holds held.answer silent_refusal) → IfOk r (λ held. held.notes.items ≡ refusal_notes is_explained text refusal) → OnOk r (HasLine refusal)
-    → IfOk r (HoldsReport (ImportsWithFiles logs grants is_explained) text)
-unnamed_so grants is_explained logs text refusal r = refused_by (IsFilesRefusal grants logs text) (ImportsWithFiles logs grants is_explained) is_explained text refusal r (λ p n it. inr it)
+    → IfOk r (HoldsReport (ImportsWithFiles accepted logs grants is_explained) text)
+unnamed_so accepted grants is_explained logs text refusal r = refused_by (IsFilesRefusal accepted grants logs text) (ImportsWithFiles accepted logs grants is_explained) is_explained text refusal r (λ p n it. inr it)

@@ -18,3 +18,4 @@ pub mod WrittenLines
 pub mod Exact
 pub mod BundleRead
 pub mod EventLines
+pub mod Tallying

@@ -3,6 +3,7 @@ use Rattle.std.specs.Prelude.{◌≡◌, ◌⊎◌, ℕ, if◌then◌else◌, �
 use Rattle.std.specs.Global.{Vec}
 use Rattle.std.specs.List.{list_any}
 use Rattle.std.specs.Str.{bytes_eq}
+use Rattle.gtid_set.specs.Sets.{Gtids}
 use Rattle.gtid_text.specs.Canonical.{gtid_text}
 use Rattle.txn_journal.specs.BundleStates.{BundleValue}
 use Rattle.txn_journal.specs.WrittenSets.{set_text}
@@ -218,11 +219,11 @@ pub record IsImportRefused (none : Refusal → Type 0) (is_explained : Bool) (te
 abbrev pub IsOfFault : (BundleFault → Type 0) → Refusal → Type 0
 IsOfFault none refusal = (fault : BundleFault) × none fault × (refusal ≡ bundle_refused fault)
 
--- these are the answer of `import` to this text and the notes beside it
-abbrev pub Imports : Grants → Bool → List ℕ → Printed → List ℕ → Type 0
-Imports grants is_explained text printed notes =
-    IsImport (ImportsLogs grants texts text) printed notes
-    ⊎ IsImportRefused (IsOfFault (λ fault. IsNoImportOfLogs grants texts fault text)) is_explained text printed notes
+-- these are the answer of `import` to this text and the notes beside it, where an operator answers for the statements of these GTIDs
+abbrev pub Imports : Gtids → Grants → Bool → List ℕ → Printed → List ℕ → Type 0
+Imports accepted grants is_explained text printed notes =
+    IsImport (ImportsLogs grants (texts accepted) text) printed notes
+    ⊎ IsImportRefused (IsOfFault (λ fault. IsNoImportOfLogs grants (texts accepted) fault text)) is_explained text printed notes
 
 -- ---- with binary log files
 
@@ -235,20 +236,20 @@ unnamed [] channels = None
 unnamed (f ∷ fs) channels = if has_name f.name.items channels then unnamed fs channels else Some f.name.items
 
 -- a bundle is imported whose channels have all of these files
-abbrev pub ImportsAll : Grants → List ChannelFiles → List ℕ → BundleValue → List ℕ → Type 0
-ImportsAll grants logs text b notes = ImportsLogs grants (log_files logs) text b notes × (unnamed logs b.channels ≡ None)
+abbrev pub ImportsAll : Gtids → Grants → List ChannelFiles → List ℕ → BundleValue → List ℕ → Type 0
+ImportsAll accepted grants logs text b notes = ImportsLogs grants (log_files accepted logs) text b notes × (unnamed logs b.channels ≡ None)
 
 -- a bundle is imported, but these files are of none of its channels
-abbrev pub HasUnnamed : Grants → List ChannelFiles → List ℕ → Refusal → Type 0
-HasUnnamed grants logs text (Files name) =
-    (b : BundleValue) × (notes : List ℕ) × ImportsLogs grants (log_files logs) text b notes × (unnamed logs b.channels ≡ Some name.items)
-HasUnnamed grants logs text _ = ⊥
+abbrev pub HasUnnamed : Gtids → Grants → List ChannelFiles → List ℕ → Refusal → Type 0
+HasUnnamed accepted grants logs text (Files name) =
+    (b : BundleValue) × (notes : List ℕ) × ImportsLogs grants (log_files accepted logs) text b notes × (unnamed logs b.channels ≡ Some name.items)
+HasUnnamed accepted grants logs text _ = ⊥
 
 -- the text is refused with these files, or one of these
-abbrev pub IsFilesRefusal : Grants → List ChannelFiles → List ℕ → Refusal → Type 0
-IsFilesRefusal grants logs text refusal = IsOfFault (λ fault. IsNoImportOfLogs grants (log_files logs) fault text) refusal ⊎ HasUnnamed grants logs text refusal
+abbrev pub IsFilesRefusal : Gtids → Grants → List ChannelFiles → List ℕ → Refusal → Type 0
+IsFilesRefusal accepted grants logs text refusal = IsOfFault (λ fault. IsNoImportOfLogs grants (log_files accepted logs) fault text) refusal ⊎ HasUnnamed accepted grants logs text refusal
 
--- these are the answer of `import` to this text and these files, and the notes beside it
-abbrev pub ImportsWithFiles : List ChannelFiles → Grants → Bool → List ℕ → Printed → List ℕ → Type 0
-ImportsWithFiles logs grants is_explained text printed notes =
-    IsImport (ImportsAll grants logs text) printed notes ⊎ IsImportRefused (IsFilesRefusal grants logs text) is_explained text printed notes
+-- these are the answer of `import` to this text and these files, and the notes beside it, where an operator answers for these statements
+abbrev pub ImportsWithFiles : Gtids → List ChannelFiles → Grants → Bool → List ℕ → Printed → List ℕ → Type 0
+ImportsWithFiles accepted logs grants is_explained text printed notes =
+    IsImport (ImportsAll accepted grants logs text) printed notes ⊎ IsImportRefused (IsFilesRefusal accepted grants logs text) is_explained text printed notes

@@ -16,6 +16,8 @@ pub mod Events
 pub mod Texts
 pub mod Version
 pub mod Listings
+pub mod Summaries
+pub mod Tallies
 pub mod Explaining
 pub mod Telling
 pub mod Exact

@@ -1,6 +1,7 @@
 -- What is known of a log at one of its lines, by the lines before it.
 use Rattle.std.specs.Prelude.{ℕ, zero, suc, ◌+◌, ◌-◌, ◌==◌, ◌&&◌, Bool, false, List, [], ◌∷◌, ◌++◌, Option, Some, None, option_map, codes, if◌then◌else◌}
-use Rattle.std.specs.Option.{option_or, option_map_or}
+use Rattle.std.specs.Option.{option_or, option_map_or, option_and_then}
+use Rattle.log_transactions.specs.Tables.{table_name}
 use Rattle.binlog_text.specs.Lines.{Content, OfTable, OfColumn, OfGtid, begins, begins_with_digit}
 use Rattle.binlog_text.specs.Reading.{line_of}
 use Rattle.binlog_text.specs.Tokens.{after_prefix, cut_at, ◌>>=◌}
@@ -8,7 +9,7 @@ use Rattle.fault_places.specs.Lines.{is_channel, shorten}
 use Rattle.fault_places.specs.Places.{line_text}
 use Rattle.commands.specs.declared.log_places.LogPlace.{LogPlace}
 
--- a line, and what is known at it: the table that was mapped last and how many of its columns came, the GTID of the last transaction,
+-- a line, and what is known at it: the name of the table that was mapped last and how many of its columns came, the GTID of the last transaction,
 -- the end of the last event in its file, and the name of the file
 pub record Place : Type 0 where
   pub line : List ℕ
@@ -21,7 +22,7 @@ pub record Place : Type 0 where
 abbrev pub place_of : LogPlace → Place
 place_of p = record {
   line = p.line.now;
-  table = option_map (λ x. x.now) p.table;
+  table = option_and_then (λ x. table_name x.0.now x.1.now) p.table;
   columns = p.columns;
   gtid = option_map (λ x. x.now) p.gtid;
   end_log_pos = option_map (λ x. x.now) p.end_log_pos;
@@ -84,7 +85,7 @@ at_line place line =
 
 -- After a line with this content: the table that it maps, or one column more.
 abbrev pub after_columns : Place → Option Content → Place
-after_columns place (Some (OfTable database table)) = record place { table = Some table; columns = 0 }
+after_columns place (Some (OfTable database table)) = record place { table = table_name database table; columns = 0 }
 after_columns place (Some (OfColumn c)) = record place { columns = place.columns + 1 }
 after_columns place _ = place
 

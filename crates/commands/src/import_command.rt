@@ -14,6 +14,7 @@ use crate::pieces::Text;
 use crate::report::{Report, Reporter, run_report};
 use crate::streams::Streams;
 use binlog_bundle::{Grants, ImportedBundle, import_bundle};
+use gtid_set::GtidSet;
 use std::alloc::Global;
 use std::mem;
 use txn_journal::{Bundle, Version, bundle_text};
@@ -75,53 +76,57 @@ pub(crate) fn report_refused(
 fn report_import(
     alloc: Global,
     grants: Grants,
+    accepted: &GtidSet,
     is_explained: bool,
     text: &[u8],
 ) -> Result<Report, RunFault>
-    ensures ok { IfOk result (HoldsReport (Imports grants is_explained) text.now) }
+    ensures ok { IfOk result (HoldsReport (Imports accepted.now grants is_explained) text.now) }
     ensures memory { IfErr result (λ f. f ≡ RunFault.Memory) }
 {
-    match import_bundle(alloc, grants, text) {
+    match import_bundle(alloc, grants, accepted, text) {
         Ok(imported) => report_imported(alloc, imported),
         Err(fault) => report_refused(alloc, is_explained, text, bundle_refused(fault)),
     }
 }
 
-/// The import with what an operator grants, and whether a refusal is explained.
+/// The import with what an operator grants and answers for, and whether a refusal is explained.
 #[derive(Drop)]
-struct Import {
+struct Import<'a> {
     grants: Grants,
+    accepted: &'a GtidSet,
     is_explained: bool,
 }
 
-impl Reporter for Import {
+impl<'a> Reporter for Import<'a> {
     ghost use Rattle.commands.specs.Imports.{Imports};
 
-    ghost reports = { λ i. Imports i.grants i.is_explained };
+    ghost reports = { λ i. Imports i.accepted.now i.grants i.is_explained };
 
     fn report(&self, alloc: Global, bytes: &[u8]) -> Result<Report, RunFault> {
-        report_import(alloc, self.grants, self.is_explained, bytes)
+        report_import(alloc, self.grants, self.accepted, self.is_explained, bytes)
     }
 }
 
 /// Reads a bundle whose journals are the texts of logs. If it is imported, its text by version 3 of the format is written to the streams,
-/// with a line for each thing that a verdict rests on by what the operator grants; and to `errors` a line for each that the text doesn't say. If
+/// with a line for each thing that a verdict rests on by what the operator grants and answers for; and to `errors` a line for each that the text doesn't say. If
 /// it is refused, nothing is written to the streams, and to `errors` the line of the refusal; if `is_explained`, also the line that it
 /// names, with the transaction, the end of the event and the file.
 pub fn run_import<S: Source, W: Sink, E: Sink>(
     alloc: Global,
     grants: Grants,
+    accepted: &GtidSet,
     is_explained: bool,
     streams: &mut Streams<S, W>,
     errors: &mut E,
 ) -> Result<Outcome, RunFault>
     ensures done { IfOk result
-        (HasReported E.written E.failed (Imports grants is_explained) errors.old errors.new streams.old streams.new) }
+        (HasReported E.written E.failed (Imports accepted.now grants is_explained) errors.old errors.new streams.old streams.new) }
     ensures failed { IfErr result
-        (HasNotReported E.written E.failed (Imports grants is_explained) errors.old errors.new streams.old streams.new) }
+        (HasNotReported E.written E.failed (Imports accepted.now grants is_explained) errors.old errors.new streams.old streams.new) }
 {
     let import = Import {
         grants,
+        accepted,
         is_explained,
     };
     run_report(alloc, &import, streams, errors)

@@ -33,9 +33,9 @@ pub(crate) enum ImportCause {
     NoFiles,
     /// There is text in the place of the channel's log, and files are read.
     Text,
-    /// The log says that the server compares this column of this table, counted from 0, by another collation than the head names.
+    /// The log says that the server compares this column of this table, counted from 0, otherwise than the head says.
     Collation(Name, u32),
-    /// In the entry of this GTID a value of this column of this table is no text of the column's character set.
+    /// In the entry of this GTID a value of this column of this table has no hidden value, as bytes that are no text of its character set.
     Weights(Gtid, Name, u32),
 }
 

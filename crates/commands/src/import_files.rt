@@ -11,6 +11,7 @@ use crate::import_fault::{Refused, bundle_refused};
 use crate::report::{Report, Reporter, run_report};
 use crate::streams::Streams;
 use binlog_bundle::{ChannelFiles, Grants, ImportedBundle, import_files};
+use gtid_set::GtidSet;
 use std::alloc::Global;
 use txn_journal::BundleChannel;
 
@@ -39,13 +40,14 @@ fn unnamed<'a>(logs: &'a [ChannelFiles], channels: &[BundleChannel]) -> Option<&
 fn report_filed(
     alloc: Global,
     grants: Grants,
+    accepted: &GtidSet,
     is_explained: bool,
     logs: &[ChannelFiles],
     text: &[u8],
     imported: ImportedBundle,
 ) -> Result<Report, RunFault>
-    requires { ImportsLogs grants (log_files logs.now) text.now imported.bundle imported.notes.items }
-    ensures ok { IfOk result (HoldsReport (ImportsWithFiles logs.now grants is_explained) text.now) }
+    requires { ImportsLogs grants (log_files accepted.now logs.now) text.now imported.bundle imported.notes.items }
+    ensures ok { IfOk result (HoldsReport (ImportsWithFiles accepted.now logs.now grants is_explained) text.now) }
     ensures memory { IfErr result (λ f. f ≡ RunFault.Memory) }
 {
     let Some(name) = unnamed(logs, imported.bundle.channels()) else {
@@ -61,57 +63,68 @@ fn report_filed(
 fn report_files(
     alloc: Global,
     grants: Grants,
+    accepted: &GtidSet,
     is_explained: bool,
     logs: &[ChannelFiles],
     text: &[u8],
 ) -> Result<Report, RunFault>
-    ensures ok { IfOk result (HoldsReport (ImportsWithFiles logs.now grants is_explained) text.now) }
+    ensures ok { IfOk result (HoldsReport (ImportsWithFiles accepted.now logs.now grants is_explained) text.now) }
     ensures memory { IfErr result (λ f. f ≡ RunFault.Memory) }
 {
-    match import_files(alloc, grants, logs, text) {
-        Ok(imported) => report_filed(alloc, grants, is_explained, logs, text, imported),
+    match import_files(alloc, grants, accepted, logs, text) {
+        Ok(imported) => report_filed(alloc, grants, accepted, is_explained, logs, text, imported),
         Err(fault) => report_refused(alloc, is_explained, text, bundle_refused(fault)),
     }
 }
 
-/// The import of files, with what an operator grants, and whether a refusal is explained.
+/// The import of files, with what an operator grants and answers for, and whether a refusal is explained.
 #[derive(Drop)]
 struct FileImport<'a> {
     logs: &'a [ChannelFiles],
     grants: Grants,
+    accepted: &'a GtidSet,
     is_explained: bool,
 }
 
 impl<'a> Reporter for FileImport<'a> {
     ghost use Rattle.commands.specs.Imports.{ImportsWithFiles};
 
-    ghost reports = { λ i. ImportsWithFiles i.logs.now i.grants i.is_explained };
+    ghost reports = { λ i. ImportsWithFiles i.accepted.now i.logs.now i.grants i.is_explained };
 
     fn report(&self, alloc: Global, bytes: &[u8]) -> Result<Report, RunFault> {
-        report_files(alloc, self.grants, self.is_explained, self.logs, bytes)
+        report_files(
+            alloc,
+            self.grants,
+            self.accepted,
+            self.is_explained,
+            self.logs,
+            bytes,
+        )
     }
 }
 
 /// Reads the head of a bundle, whose journals are those of binary log files. If it is imported, its text by version 3 of the format is written to
-/// the streams, with a line for each thing that a verdict rests on by what the operator grants, or because a log has no checksums; and to
+/// the streams, with a line for each thing that a verdict rests on by what the operator grants and answers for, or because a log has no checksums; and to
 /// `errors` a line for each that the text doesn't say. If it is refused, nothing is written to the streams, and to `errors` the line of the
 /// refusal: a line of the head, or a file and the offset of an event. If `is_explained`, also the line of the head that it names.
 pub fn run_import_files<S: Source, W: Sink, E: Sink>(
     alloc: Global,
     grants: Grants,
+    accepted: &GtidSet,
     is_explained: bool,
     logs: &[ChannelFiles],
     streams: &mut Streams<S, W>,
     errors: &mut E,
 ) -> Result<Outcome, RunFault>
     ensures done { IfOk result
-        (HasReported E.written E.failed (ImportsWithFiles logs.now grants is_explained) errors.old errors.new streams.old streams.new) }
+        (HasReported E.written E.failed (ImportsWithFiles accepted.now logs.now grants is_explained) errors.old errors.new streams.old streams.new) }
     ensures failed { IfErr result
-        (HasNotReported E.written E.failed (ImportsWithFiles logs.now grants is_explained) errors.old errors.new streams.old streams.new) }
+        (HasNotReported E.written E.failed (ImportsWithFiles accepted.now logs.now grants is_explained) errors.old errors.new streams.old streams.new) }
 {
     let import = FileImport {
         logs,
         grants,
+        accepted,
         is_explained,
     };
     run_report(alloc, &import, streams, errors)

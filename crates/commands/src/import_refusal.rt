@@ -15,6 +15,7 @@ use fault_places::{put, put_number};
 use gtid_report::{Fault, push_set, render_fault};
 use gtid_set::GtidSet;
 use gtid_text::{Gtid, write_gtid};
+use log_transactions::table_name;
 use rows::Name;
 use std::alloc::{AllocError, Global};
 
@@ -34,26 +35,38 @@ fn put_column(out: &mut Vec<u8>, table: &[u8], column: usize) -> Result<(), Allo
     put_number(out, column)
 }
 
-/// Appends the table that was mapped last, and its next column.
-fn put_mapped(out: &mut Vec<u8>, table: &Option<&[u8]>, columns: u64) -> Result<(), AllocError>
-    ensures { OnOk result (out.new.items ≡ out.old.items ++ mapped_text (option_map (λ x. x.now) table.now) columns) }
+/// Appends a table of this name, if it has one, and its next column.
+fn put_mapped(out: &mut Vec<u8>, table: &Option<Name>, columns: u64) -> Result<(), AllocError>
+    ensures { OnOk result (out.new.items ≡ out.old.items ++ mapped_text table.now columns) }
 {
     match table {
-        Some(table) => put_column(out, table, columns as usize),
+        Some(table) => put_column(out, table.as_str().as_bytes(), columns as usize),
         None => Ok(()),
     }
 }
 
+/// The name of the table that was mapped last.
+fn mapped_name(alloc: Global, place: &LogPlace<'_>) -> Result<Option<Name>, AllocError>
+    ensures { IfOk result (λ name. name ≡ (place_of place.now).table) }
+{
+    match place.table {
+        Some((database, table)) => table_name(alloc, database, table),
+        None => Ok(None),
+    }
+}
+
 /// Appends that the type of a column is refused.
-fn put_type(out: &mut Vec<u8>, place: &LogPlace<'_>) -> Result<(), AllocError>
+fn put_type(alloc: Global, out: &mut Vec<u8>, place: &LogPlace<'_>) -> Result<(), AllocError>
     ensures { OnOk result (out.new.items ≡ out.old.items ++ refusal_text refusals.Type (place_of place.now)) }
 {
+    let table = mapped_name(alloc, place)?;
     put(out, "type")?;
-    put_mapped(out, &place.table, place.columns)
+    put_mapped(out, &table, place.columns)
 }
 
 /// Appends why a line of a log in this text is refused.
 fn put_entry_refusal(
+    alloc: Global,
     out: &mut Vec<u8>,
     text: &[u8],
     line: u64,
@@ -62,7 +75,7 @@ fn put_entry_refusal(
     ensures { OnOk result (out.new.items ≡ out.old.items ++ refusal_text refusal (place_at line text.now)) }
 {
     match refusal {
-        EntryRefusal::Type => put_type(out, &place_at(text, line)),
+        EntryRefusal::Type => put_type(alloc, out, &place_at(text, line)),
         _ => put(out, refusal.word()),
     }
 }
@@ -111,7 +124,7 @@ fn put_too_large(
     put_limit(out, limit)
 }
 
-/// Appends that a value of a column has no weights.
+/// Appends that a value of a column has no hidden value.
 fn put_unweighed(
     alloc: Global,
     out: &mut Vec<u8>,
@@ -137,7 +150,7 @@ fn put_cause(
     ensures { OnOk result (out.new.items ≡ out.old.items ++ cause_text cause.now (place_at line text.now)) }
 {
     match cause {
-        ImportCause::Line(refusal) => put_entry_refusal(out, text, line, *refusal),
+        ImportCause::Line(refusal) => put_entry_refusal(alloc, out, text, line, *refusal),
         ImportCause::Unfinished => put(out, "unfinished"),
         ImportCause::Key(table, column) => {
             put(out, "key")?;

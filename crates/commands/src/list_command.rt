@@ -60,7 +60,11 @@ fn push_runs(text: &mut String, runs: &[Span]) -> Result<(), AllocError>
 }
 
 /// What the faults of a bundle rest on, if its verdict doesn't say it.
-fn push_last(text: &mut String, bundle: &Bundle, verdict: &Verdict) -> Result<(), AllocError>
+pub(crate) fn push_last(
+    text: &mut String,
+    bundle: &Bundle,
+    verdict: &Verdict,
+) -> Result<(), AllocError>
     ensures { OnOk result (string_bytes text.new ≡ string_bytes text.old ++ last_line (assumed bundle.now) verdict.now) }
 {
     if matches!(verdict, Verdict::Sound) || !is_assuming(bundle) {

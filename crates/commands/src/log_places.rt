@@ -13,8 +13,8 @@ use std::alloc::AllocError;
 #[derive(Clone, Copy, Drop)]
 pub(crate) struct LogPlace<'a> {
     pub(crate) line: &'a [u8],
-    /// The name of the table that was mapped last.
-    pub(crate) table: Option<&'a [u8]>,
+    /// The table that was mapped last, by its database's name and its own.
+    pub(crate) table: Option<(&'a [u8], &'a [u8])>,
     /// How many columns of that table came before the line.
     pub(crate) columns: u64,
     /// The GTID of the last transaction.
@@ -172,8 +172,8 @@ impl<'a> LogPlace<'a> {
         ensures columns { result.columns ≤ self.now.columns + 1 }
     {
         match read_line(self.line) {
-            Some(LogLine::TableMap(_, table)) => LogPlace {
-                table: Some(table),
+            Some(LogLine::TableMap(database, table)) => LogPlace {
+                table: Some((database, table)),
                 columns: 0,
                 ..*self
             },

@@ -1,35 +1,22 @@
--- What hidden values are for.
-use Rattle.std.proofs.Common.{◌≡◌, ℕ, ◌+◌, zero, suc, List, [], ◌∷◌, ◌++◌, length, map, Option, Some, None, option_map, Result, Ok, Err, refl, sym, ap, subst, ◌∙◌, arith, length-append}
+-- Hidden columns are behind, and GTIDs stay.
+use Rattle.std.proofs.Common.{◌≡◌, ℕ, ◌+◌, zero, suc, List, [], ◌∷◌, ◌++◌, length, map, Option, Some, None, Result, Ok, Err, refl, sym, ap, subst, ◌∙◌, arith, length-append}
 use Rattle.std.specs.Prelude.{slice_get, ok_or}
 use Rattle.std.proofs.Math.Seq.{take-append_seam}
 use Rattle.std.proofs.lemmas.List.{append-nil}
 use Rattle.rows.specs.declared.change.Change.TheVariants.{Insert, Delete, Update}
-use Rattle.collation_weights.specs.Weights.{weights}
 use Rattle.gtid_text.specs.declared.Gtid.{Gtid}
 use Rattle.row_images.specs.declared.value.Value.{Value}
-use Rattle.row_images.specs.declared.value.Value.TheVariants.{Bytes}
-use Rattle.row_images.specs.Order.{bytes}
 use Rattle.rows.specs.declared.change.Change.{Change}
 use Rattle.journal.specs.declared.Entry.{Entry}
 use Rattle.lemmas.proofs.Options.{none_some}
-use Rattle.derived_columns.specs.declared.column.WeighedColumn.{WeighedColumn}
+use Rattle.derived_columns.specs.declared.column.DerivedColumn.{DerivedColumn}
+use Rattle.derived_columns.specs.declared.column.DerivedColumn.TheVariants.{Part, Row}
+use Rattle.derived_columns.specs.declared.column.KeyPart.{KeyPart}
 use Rattle.derived_columns.specs.Columns.{table_columns}
 use Rattle.derived_columns.specs.Each.{with_it, with_both, each}
-use Rattle.derived_columns.specs.Images.{hidden_at, hidden_or_column, hidden_values, derived_image}
+use Rattle.derived_columns.specs.Images.{hidden_at, part_at, hidden_or_part, hidden_values, derived_image}
 use Rattle.derived_columns.specs.Entries.{as_entry, derived_change, derived_changes, derived_entry, derived_entries}
-use Rattle.derived_columns.specs.Laws.{HiddenValuesTellWeights, IsImageWithHidden, HiddenColumnsAreBehind, GtidsStay}
-
--- ---- weights
-
-bytes_back : (o : Option (List ℕ)) → option_map bytes (option_map Bytes o) ≡ o
-bytes_back None = refl
-bytes_back (Some b) = refl
-
-pub hidden_values_tell_weights : HiddenValuesTellWeights
-hidden_values_tell_weights collation a b = (
-  λ e. sym (bytes_back (weights collation a)) ∙ ap (option_map bytes) e ∙ bytes_back (weights collation b),
-  λ e. ap (option_map Bytes) e,
-)
+use Rattle.derived_columns.specs.Laws.{IsImageWithHidden, HiddenColumnsAreBehind, GtidsStay}
 
 -- ---- lists of results
 
@@ -61,9 +48,13 @@ each_at f (z ∷ xs) ys (suc n) x h at =
 
 -- ---- images
 
-found_there : (o : Option Value) (c : WeighedColumn) (v : Value) → ok_or o c ≡ Ok v → o ≡ Some v
-found_there None c v h = absurd cc
-found_there (Some u) c v h = cc
+found_part : (o : Option Value) (part : KeyPart) (v : Value) → ok_or o part ≡ Ok v → o ≡ Some v
+found_part None part v h = absurd cc
+found_part (Some u) part v h = cc
+
+found_there : (image : List Value) (c : DerivedColumn) (v : Value) → hidden_or_part image c ≡ Ok v → hidden_at image c ≡ Some v
+found_there image (Part part) v h = found_part (part_at image part) part v h
+found_there image (Row table) v h = cc
 
 behind : (image hidden : List Value) (n : ℕ) → slice_get (image ++ hidden) (length image + n) ≡ slice_get hidden n
 behind [] hidden n = let e : 0 + n ≡ n = omega arith in ap (slice_get hidden) e
@@ -71,13 +62,13 @@ behind (v ∷ image) hidden n =
     let e : length (v ∷ image) + n ≡ suc (length image + n) = omega arith in
     ap (slice_get (v ∷ image ++ hidden)) e ∙ behind image hidden n
 
-with_hidden : (columns : List WeighedColumn) (table : List ℕ) (image hidden : List Value) → hidden_values (table_columns columns table) image ≡ Ok hidden
+with_hidden : (columns : List DerivedColumn) (table : List ℕ) (image hidden : List Value) → hidden_values (table_columns columns table) image ≡ Ok hidden
     → IsImageWithHidden columns table image (image ++ hidden)
 with_hidden columns table image hidden h = record {
   begins = take-append_seam image hidden;
-  behind = λ n c at. let r = each_at (hidden_or_column image) (table_columns columns table) hidden n c h at in
-      behind image hidden n ∙ r.1 ∙ sym (found_there (hidden_at image c) c r.0 r.2);
-  len = length-append image hidden ∙ ap (λ k. length image + k) (each_len (hidden_or_column image) (table_columns columns table) hidden h);
+  behind = λ n c at. let r = each_at (hidden_or_part image) (table_columns columns table) hidden n c h at in
+      behind image hidden n ∙ r.1 ∙ sym (found_there image c r.0 r.2);
+  len = length-append image hidden ∙ ap (λ k. length image + k) (each_len (hidden_or_part image) (table_columns columns table) hidden h);
 }
 
 pub hidden_columns_are_behind : HiddenColumnsAreBehind
@@ -87,7 +78,7 @@ hidden_columns_are_behind columns table image derived h =
 
 -- ---- entries
 
-gtid_stays : (gtid : Gtid) (r : Result (List Change) WeighedColumn) (d : Entry) → as_entry gtid r ≡ Ok d → d.gtid ≡ gtid
+gtid_stays : (gtid : Gtid) (r : Result (List Change) KeyPart) (d : Entry) → as_entry gtid r ≡ Ok d → d.gtid ≡ gtid
 gtid_stays gtid (Ok changes) d h =
     let e : record { gtid = gtid; txn = record { changes = changes } } ≡ d = cc in
     ap (λ (x : Entry). x.gtid) (sym e)
@@ -100,7 +91,7 @@ gtids_stay columns (e ∷ entries) derived h =
     ap (map (λ (x : Entry). x.gtid)) (sym m.4)
     ∙ (λ i. gtid_stays e.gtid (derived_changes columns e.txn.changes) m.0 m.2 i ∷ gtids_stay columns entries m.1 m.3 i)
 
--- ---- no columns of text
+-- ---- no hidden columns
 
 no_hidden : (table : List ℕ) (image : List Value) → derived_image [] table image ≡ Ok image
 no_hidden table image = ap Ok (append-nil image)
@@ -117,6 +108,6 @@ each_itself f h (x ∷ xs) = λ i. with_both (λ y ys. y ∷ ys) (h x i) (each_i
 no_entry : (e : Entry) → derived_entry [] e ≡ Ok e
 no_entry e = ap (as_entry e.gtid) (each_itself (derived_change []) no_change e.txn.changes)
 
-pub without_columns : (columns : List WeighedColumn) (entries : List Entry) → length columns ≡ 0 → derived_entries columns entries ≡ Ok entries
+pub without_columns : (columns : List DerivedColumn) (entries : List Entry) → length columns ≡ 0 → derived_entries columns entries ≡ Ok entries
 without_columns [] entries h = each_itself (derived_entry []) no_entry entries
 without_columns (c ∷ columns) entries h = absurd (omega arith)

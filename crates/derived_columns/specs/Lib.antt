@@ -1,5 +1,6 @@
 pub mod Each
 pub mod Columns
+pub mod Compared
 pub mod Images
 pub mod Faults
 pub mod Tables

@@ -6,7 +6,7 @@ ghost use Rattle.derived_columns.specs.Images.{derived_image};
 ghost use Rattle.derived_columns.specs.Entries.{derived_changes};
 ghost use Rattle.derived_columns.specs.Faults.{IsImageFault};
 
-use crate::column::WeighedColumn;
+use crate::column::DerivedColumn;
 use crate::fault::ImageFault;
 use crate::images::with_hidden;
 use crate::tables::{by_table, touches};
@@ -15,10 +15,10 @@ use rows::{Change, Name, Row};
 use std::alloc::{AllocError, Global};
 use std::marker::Model;
 
-/// Columns of text, in their order.
+/// What hidden columns hold, in their order.
 pub struct Derivation {
-    columns: Vec<WeighedColumn>,
-    tables: KeyTable<Name, Vec<WeighedColumn>>,
+    columns: Vec<DerivedColumn>,
+    tables: KeyTable<Name, Vec<DerivedColumn>>,
 }
 
 impl Drop for Derivation {
@@ -33,10 +33,10 @@ impl Drop for Derivation {
 
 impl Model for Derivation {
     ghost use Rattle.std.specs.Prelude.{List};
-    ghost use Rattle.derived_columns.specs.declared.column.WeighedColumn.{WeighedColumn};
+    ghost use Rattle.derived_columns.specs.declared.column.DerivedColumn.{DerivedColumn};
     ghost use Rattle.derived_columns.specs.Tables.{AreByTable};
 
-    ghost Value = { List WeighedColumn };
+    ghost Value = { List DerivedColumn };
 
     ghost view = { λ a. a.columns.items };
 
@@ -45,7 +45,7 @@ impl Model for Derivation {
 
 impl Derivation {
     /// With these columns.
-    pub fn of(alloc: Global, columns: Vec<WeighedColumn>) -> Result<Derivation, AllocError>
+    pub fn of(alloc: Global, columns: Vec<DerivedColumn>) -> Result<Derivation, AllocError>
         ensures { IfOk result (λ derivation. derivation ≡ columns.items) }
     {
         let tables = by_table(alloc, columns.as_slice())?;
@@ -53,31 +53,31 @@ impl Derivation {
     }
 
     /// The columns, in their order.
-    pub fn columns(&self) -> &[WeighedColumn]
+    pub fn columns(&self) -> &[DerivedColumn]
         ensures { result.now ≡ self.now }
     {
         self.columns.as_slice()
     }
 
-    /// Those of a table, in their order: its nth hidden column has the weights of the nth of them.
-    pub fn table_columns(&self, table: &Name) -> &[WeighedColumn]
+    /// Those of a table, in their order: the nth of them is what its nth hidden column holds.
+    pub fn table_columns(&self, table: &Name) -> &[DerivedColumn]
         ensures { result.now ≡ table_columns self.now table.now }
     {
-        let none: &[WeighedColumn] = &[];
+        let none: &[DerivedColumn] = &[];
         match self.tables.get(table) {
             Some(columns) => columns.as_slice(),
             None => none,
         }
     }
 
-    /// Whether one of the changes is of a table with columns of text. (Else they are derived as they are.)
+    /// Whether one of the changes is of a table with hidden columns. (Else they are derived as they are.)
     pub(crate) fn touches(&self, changes: &[Change]) -> bool
         ensures { result ≡ false → derived_changes self.now changes.now ≡ Ok changes.now }
     {
         touches(&self.tables, changes)
     }
 
-    /// An image of a table with its hidden values behind, or the first column that has none.
+    /// An image of a table with its hidden values behind, or the first part of a key that has none.
     pub(crate) fn derive_image(
         &self,
         alloc: Global,
@@ -90,8 +90,8 @@ impl Derivation {
         with_hidden(alloc, self.table_columns(table), image)
     }
 
-    /// An image of a table with its hidden values behind: none, if it lacks one of the table's columns of text, or if a value there is no
-    /// text of the collation. If the table has no such columns, the image is shared.
+    /// An image of a table with its hidden values behind: none, if it lacks the column of a part of a key, or if the value there has no
+    /// hidden value. If the table has no hidden columns, the image is shared.
     pub fn derive_row(
         &self,
         alloc: Global,
@@ -102,7 +102,7 @@ impl Derivation {
     {
         match self.derive_image(alloc, table, image) {
             Ok(row) => Ok(Some(row)),
-            Err(ImageFault::NoWeights(_column)) => Ok(None),
+            Err(ImageFault::NoHiddenValue(_part)) => Ok(None),
             Err(ImageFault::Memory) => Err(AllocError),
         }
     }

@@ -65,7 +65,7 @@ impl Derivation {
         Ok(derived)
     }
 
-    /// An entry with the hidden values of its images. If no table of its changes has columns of text, they are shared.
+    /// An entry with the hidden values of its images. If no table of its changes has hidden columns, they are shared.
     fn derive_entry(&self, alloc: Global, entry: &Entry) -> Result<Entry, DerivationFault>
         ensures found { IfOk result (λ derived. derived_entry self.now entry.now ≡ Ok derived) }
         ensures fault { IfErr result (IsDerivationFault (derived_entry self.now entry.now)) }
@@ -85,7 +85,7 @@ impl Derivation {
         }
     }
 
-    /// Entries with the hidden values of their images, in their order. If there are no columns of text, they come back as they are.
+    /// Entries with the hidden values of their images, in their order. If there are no hidden columns, they come back as they are.
     pub fn derive_entries(
         &self,
         alloc: Global,

@@ -4,7 +4,7 @@ ghost use Rattle.derived_columns.specs.Entries.{fault_of};
 ghost use Rattle.derived_columns.specs.declared.fault.ImageFault.TheVariants as image;
 ghost use Rattle.derived_columns.specs.declared.fault.DerivationFault.TheVariants as entries;
 
-use crate::column::WeighedColumn;
+use crate::column::KeyPart;
 use gtid_text::Gtid;
 use rows::Name;
 use std::alloc::{AllocError, AllocFailed};
@@ -14,8 +14,8 @@ use std::alloc::{AllocError, AllocFailed};
 pub(crate) enum ImageFault {
     /// Out of memory.
     Memory,
-    /// It has no hidden value of this column.
-    NoWeights(WeighedColumn),
+    /// It has no hidden value of this part of a key.
+    NoHiddenValue(KeyPart),
 }
 
 /// Why nothing is derived from entries.
@@ -23,8 +23,8 @@ pub(crate) enum ImageFault {
 pub enum DerivationFault {
     /// Out of memory.
     Memory,
-    /// An image of a transaction lacks a column of text, or the value there is no text of the collation.
-    NoWeights {
+    /// An image of a transaction lacks the column of a part of a key, or the value there has no hidden value.
+    NoHiddenValue {
         gtid: Gtid,
         table: Name,
         column: u32,
@@ -38,10 +38,10 @@ impl ImageFault {
     {
         match self {
             ImageFault::Memory => DerivationFault::Memory,
-            ImageFault::NoWeights(column) => DerivationFault::NoWeights {
+            ImageFault::NoHiddenValue(part) => DerivationFault::NoHiddenValue {
                 gtid,
-                table: column.table,
-                column: column.column,
+                table: part.table,
+                column: part.column,
             },
         }
     }

@@ -1,12 +1,12 @@
 //! The hidden values of an image.
 ghost use Rattle.std.specs.Prelude.{◌≡◌, Some, Ok, IfOk, IfErr, ok_or};
-ghost use Rattle.derived_columns.specs.Images.{hidden_value, hidden_or_column, hidden_values};
+ghost use Rattle.derived_columns.specs.Images.{hidden_value, row_value, hidden_or_part, hidden_values};
 ghost use Rattle.derived_columns.specs.Faults.{IsImageFault};
+ghost use Rattle.derived_columns.specs.declared.column.DerivedColumn.TheVariants.{Part};
 
-use crate::column::WeighedColumn;
+use crate::column::{DerivedColumn, KeyComparison, KeyPart};
+use crate::compared::compared_bytes;
 use crate::fault::ImageFault;
-use collation_weights::weigh;
-use collations::Collation;
 use row_images::{ByteString, Row, Value};
 use std::alloc::{AllocError, Global};
 
@@ -16,73 +16,111 @@ const FEW_COLUMNS: usize = 16;
 /// The hidden value of a value.
 fn hidden_value(
     alloc: Global,
-    collation: Collation,
+    comparison: KeyComparison,
     value: &Value,
 ) -> Result<Option<Value>, AllocError>
-    ensures { IfOk result (λ found. found ≡ hidden_value collation value.now) }
+    ensures { IfOk result (λ found. found ≡ hidden_value comparison value.now) }
 {
     match value {
         Value::Null => Ok(Some(Value::Null)),
         Value::Int(_) => Ok(None),
-        Value::Bytes(text) => match weigh(alloc, collation, text.as_slice())? {
-            Some(weights) => Ok(Some(Value::Bytes(ByteString::new(weights)?))),
+        Value::Bytes(bytes) => match compared_bytes(alloc, comparison, bytes.as_slice())? {
+            Some(compared) => Ok(Some(Value::Bytes(compared))),
             None => Ok(None),
         },
     }
 }
 
-/// What was found for a column, or the fault that names it.
-fn named(column: &WeighedColumn, found: Option<Value>) -> Result<Value, ImageFault>
+/// The text of an image, as bytes.
+fn row_value(alloc: Global, image: &Row) -> Result<Value, AllocError>
+    ensures { IfOk result (λ value. value ≡ row_value image.now) }
+{
+    let text = ByteString::from_slice(alloc, image.as_str().as_bytes())?;
+    Ok(Value::Bytes(text))
+}
+
+/// What was found for a part of a key, or the fault that names it.
+fn named(part: &KeyPart, found: Option<Value>) -> Result<Value, ImageFault>
     ensures found { IfOk result (λ value. found ≡ Some value) }
-    ensures fault { IfErr result (IsImageFault (ok_or found column.now)) }
+    ensures fault { IfErr result (IsImageFault (ok_or found part.now)) }
 {
     match found {
         Some(value) => Ok(value),
-        None => Err(ImageFault::NoWeights(column.clone()?)),
+        None => Err(ImageFault::NoHiddenValue(part.clone()?)),
     }
 }
 
-/// The hidden value of an image in a column.
-fn hidden_at(alloc: Global, column: &WeighedColumn, image: &Row) -> Result<Value, ImageFault>
-    ensures found { IfOk result (λ value. hidden_or_column image.now column.now ≡ Ok value) }
-    ensures fault { IfErr result (IsImageFault (hidden_or_column image.now column.now)) }
+/// The hidden value of a part of a key, of the value in its column of an image.
+fn part_at(alloc: Global, part: &KeyPart, image: &Row) -> Result<Value, ImageFault>
+    ensures found { IfOk result (λ value. hidden_or_part image.now (Part part.now) ≡ Ok value) }
+    ensures fault { IfErr result (IsImageFault (hidden_or_part image.now (Part part.now))) }
 {
-    if column.column as usize >= image.len() {
-        return named(column, None);
+    if part.column as usize >= image.len() {
+        return named(part, None);
     }
-    let value = image.value_at(alloc, column.column)?;
-    named(column, hidden_value(alloc, column.collation, &value)?)
+    let value = image.value_at(alloc, part.column)?;
+    named(part, hidden_value(alloc, part.comparison, &value)?)
 }
 
-/// The hidden value in a column of an image that was read.
-fn hidden_among(alloc: Global, column: &WeighedColumn, image: &[Value]) -> Result<Value, ImageFault>
-    ensures found { IfOk result (λ value. hidden_or_column image.now column.now ≡ Ok value) }
-    ensures fault { IfErr result (IsImageFault (hidden_or_column image.now column.now)) }
+/// The hidden value of a part of a key, of the value in its column of an image that was read.
+fn part_among(alloc: Global, part: &KeyPart, image: &[Value]) -> Result<Value, ImageFault>
+    ensures found { IfOk result (λ value. hidden_or_part image.now (Part part.now) ≡ Ok value) }
+    ensures fault { IfErr result (IsImageFault (hidden_or_part image.now (Part part.now))) }
 {
-    match image.get(column.column as usize) {
-        Some(value) => named(column, hidden_value(alloc, column.collation, value)?),
-        None => named(column, None),
+    match image.get(part.column as usize) {
+        Some(value) => named(part, hidden_value(alloc, part.comparison, value)?),
+        None => named(part, None),
     }
 }
 
-/// The hidden values of an image that was read.
+/// What a hidden column holds of an image.
+fn hidden_at(alloc: Global, column: &DerivedColumn, image: &Row) -> Result<Value, ImageFault>
+    ensures found { IfOk result (λ value. hidden_or_part image.now column.now ≡ Ok value) }
+    ensures fault { IfErr result (IsImageFault (hidden_or_part image.now column.now)) }
+{
+    match column {
+        DerivedColumn::Part(part) => part_at(alloc, part, image),
+        DerivedColumn::Row(_table) => Ok(row_value(alloc, image)?),
+    }
+}
+
+/// What a hidden column holds of an image with these values.
+fn hidden_among(
+    alloc: Global,
+    column: &DerivedColumn,
+    image: &Row,
+    values: &[Value],
+) -> Result<Value, ImageFault>
+    requires { values.now ≡ image.now }
+    ensures found { IfOk result (λ value. hidden_or_part image.now column.now ≡ Ok value) }
+    ensures fault { IfErr result (IsImageFault (hidden_or_part image.now column.now)) }
+{
+    match column {
+        DerivedColumn::Part(part) => part_among(alloc, part, values),
+        DerivedColumn::Row(_table) => Ok(row_value(alloc, image)?),
+    }
+}
+
+/// The hidden values of an image with these values.
 fn each_among(
     alloc: Global,
-    columns: &[WeighedColumn],
-    image: &[Value],
+    columns: &[DerivedColumn],
+    image: &Row,
+    values: &[Value],
 ) -> Result<Vec<Value>, ImageFault>
+    requires { values.now ≡ image.now }
     ensures found { IfOk result (λ hidden. hidden_values columns.now image.now ≡ Ok hidden.items) }
     ensures fault { IfErr result (IsImageFault (hidden_values columns.now image.now)) }
 {
     let mut hidden = Vec::with_capacity(alloc, columns.len())?;
     for column in columns {
-        hidden.push(hidden_among(alloc, column, image)?)?;
+        hidden.push(hidden_among(alloc, column, image, values)?)?;
     }
     Ok(hidden)
 }
 
 /// The hidden values of an image in few columns.
-fn each_at(alloc: Global, columns: &[WeighedColumn], image: &Row) -> Result<Vec<Value>, ImageFault>
+fn each_at(alloc: Global, columns: &[DerivedColumn], image: &Row) -> Result<Vec<Value>, ImageFault>
     ensures found { IfOk result (λ hidden. hidden_values columns.now image.now ≡ Ok hidden.items) }
     ensures fault { IfErr result (IsImageFault (hidden_values columns.now image.now)) }
 {
@@ -93,10 +131,10 @@ fn each_at(alloc: Global, columns: &[WeighedColumn], image: &Row) -> Result<Vec<
     Ok(hidden)
 }
 
-/// The hidden values of an image, or the first column that has none.
+/// The hidden values of an image, or the first part of a key that has none.
 pub(crate) fn hidden_values(
     alloc: Global,
-    columns: &[WeighedColumn],
+    columns: &[DerivedColumn],
     image: &Row,
 ) -> Result<Vec<Value>, ImageFault>
     ensures found { IfOk result (λ hidden. hidden_values columns.now image.now ≡ Ok hidden.items) }
@@ -106,5 +144,5 @@ pub(crate) fn hidden_values(
         return each_at(alloc, columns, image);
     }
     let values = image.values(alloc)?;
-    each_among(alloc, columns, values.as_slice())
+    each_among(alloc, columns, image, values.as_slice())
 }

@@ -4,7 +4,7 @@ ghost use Rattle.std.specs.String.{string_bytes};
 ghost use Rattle.derived_columns.specs.Images.{hidden_values, with_behind};
 ghost use Rattle.derived_columns.specs.Faults.{IsImageFault};
 
-use crate::column::WeighedColumn;
+use crate::column::DerivedColumn;
 use crate::fault::ImageFault;
 use crate::hidden::hidden_values;
 use row_images::{Row, Value};
@@ -54,7 +54,7 @@ fn with_behind(alloc: Global, image: &Row, more: Vec<Value>) -> Result<Row, Allo
 /// An image with its hidden values behind.
 pub(crate) fn with_hidden(
     alloc: Global,
-    columns: &[WeighedColumn],
+    columns: &[DerivedColumn],
     image: &Row,
 ) -> Result<Row, ImageFault>
     ensures found { IfOk result (λ row. with_behind image.now (hidden_values columns.now image.now) ≡ Ok row) }

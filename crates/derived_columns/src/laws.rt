@@ -1,12 +1,17 @@
 //! Laws of hidden columns. Each function's contract is a law, and its body is empty.
-ghost use Rattle.derived_columns.specs.Laws.{HiddenValuesTellWeights, HiddenColumnsAreBehind, GtidsStay};
+ghost use Rattle.derived_columns.specs.Laws.{HiddenValuesTellKeys, HiddenValuesTellRows, HiddenColumnsAreBehind, GtidsStay};
 
-/// Two texts have one hidden value exactly if they have the same weights: where the server says that they are equal.
-pub fn hidden_values_tell_weights()
-    ensures { HiddenValuesTellWeights }
+/// Two values of a column have one hidden value exactly if they are one value of the key: where the server says that they are equal.
+pub fn hidden_values_tell_keys()
+    ensures { HiddenValuesTellKeys }
 {}
 
-/// What is derived begins with the image. Of the table's nth column of text it has the hidden value in the nth place behind.
+/// Two images have one hidden value of their rows exactly if they are equal.
+pub fn hidden_values_tell_rows()
+    ensures { HiddenValuesTellRows }
+{}
+
+/// What is derived begins with the image. What the table's nth hidden column holds is in the nth place behind.
 pub fn hidden_columns_are_behind()
     ensures { HiddenColumnsAreBehind }
 {}

@@ -8,6 +8,7 @@ use Rattle.commands.specs.SetCommand.{set_answering}
 use Rattle.commands.specs.Positions.{asking_in, to_asking}
 use Rattle.commands.specs.Bundles.{Audits, Upgrades, Applies}
 use Rattle.commands.specs.Listings.{Lists}
+use Rattle.commands.specs.Summaries.{Summarizes}
 use Rattle.commands.specs.Explaining.{Explains}
 use Rattle.commands.specs.States.{IsStatesAnswer}
 use Rattle.commands.specs.Events.{IsEventsAnswer, HasEndedEarly}
@@ -17,7 +18,7 @@ use Rattle.commands.specs.Applying.{Tells}
 use Rattle.commands.specs.Reports.{HasReported, HasNotReported}
 use Rattle.commands.specs.declared.edge.Outcome.{Outcome}
 use Rattle.commands.specs.declared.edge.RunFault.{RunFault}
-use Rattle.gtidrep.specs.declared.line.Listing.TheVariants as listing
+use Rattle.gtidrep.specs.declared.audit_line.Listing.TheVariants as listing
 use Rattle.gtidrep.specs.declared.line.Command.{Command}
 use Rattle.gtidrep.specs.declared.line.Command.TheVariants.{Set, Position, Audit, Upgrade, States, Import, ImportFiles, Events, Version, Apply, Tell}
 
@@ -34,11 +35,12 @@ doing_of logs (Set function first second) = answers (set_answering function.now 
 doing_of logs (Position own ask) = answers (to_asking (asking_in own.now ask.now))
 doing_of logs (Audit order listing.Verdict) = answers (to_all (Audits order))
 doing_of logs (Audit order listing.All) = answers (to_all Lists)
+doing_of logs (Audit order listing.Summary) = answers (to_all Summarizes)
 doing_of logs (Audit order listing.Explained) = reports (Explains order)
 doing_of logs (Upgrade target) = answers (to_all (Upgrades target))
 doing_of logs States = answers_in_parts (to_all IsStatesAnswer)
-doing_of logs (Import grants is_explained) = reports (Imports grants is_explained)
-doing_of logs (ImportFiles grants is_explained files) = reports (ImportsWithFiles logs grants is_explained)
+doing_of logs (Import grants accepted is_explained) = reports (Imports accepted grants is_explained)
+doing_of logs (ImportFiles grants accepted is_explained files) = reports (ImportsWithFiles accepted logs grants is_explained)
 doing_of logs (Events file detail) = lists_events detail
 doing_of logs Version = answers (at_once printed_version)
 doing_of logs (Apply way order workers) = answers (to_all (Applies order))

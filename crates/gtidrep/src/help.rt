@@ -39,6 +39,7 @@ transactions at fault, `missing`, `unequal` and `does-not-apply` one of them, `p
 error shows where these stand: channels, entries, lines and changes; of a line that is refused, the line and what is due.
 With --ordered two sources may write one row, as after a failover: `reordered` and `concurrent` then name two transactions
 that share a key and stand in two orders, or in none. Where a bundle of version 3 assumes something, `sound if` names it.
+With --summary a line for each pair of sources and table says how many keys they share, and which is the first.
 
 Example:
   gtidrep audit < examples/ring.bundle
@@ -69,8 +70,8 @@ pub(crate) const IMPORT_EXAMPLE: &str =
     "Reads the head of a bundle of version 3 and binary logs of MySQL, and prints the bundle with their journals. With --binlogs the
 logs are the files that it names; else the input has in the place of each journal what mysqlbinlog prints of them, and
 transactions of the opening set are left out by mysqlbinlog itself. The line of a channel ends with the gtid_executed of its
-server, so that a log that ends early is refused. What an option grants, and that a log has no checksums, the bundle says in
-its lines `assume ..`. Standard error has the refusal, which names the line of the input, or the file of a channel and the
+server, so that a log that ends early is refused. What an option grants, for whose statements --accept answers, and that a log
+has no checksums, the bundle says in its lines `assume ..`. Standard error has the refusal, which names the line of the input, or the file of a channel and the
 offset of the event; or else a line for each table whose keys --bytes takes.
 
 Examples:
@@ -115,6 +116,11 @@ For more information, try '--help'.
 ";
 
 pub(crate) const NO_CHANNEL: &str = "error: --binlogs names each file as <channel>=<file>
+
+For more information, try '--help'.
+";
+
+pub(crate) const NO_SET: &str = "error: --accept takes a set of GTIDs
 
 For more information, try '--help'.
 ";

@@ -1,9 +1,11 @@
 //! The words of `import`.
 
-use crate::help::{IMPORT_EXAMPLE, NO_CHANNEL};
-use crate::line::{CommandFault, flag, told};
+use crate::help::{IMPORT_EXAMPLE, NO_CHANNEL, NO_SET};
+use crate::line::{CommandFault, flag, progress_flag, told};
 use binlog_bundle::Grants;
 use clap::{Arg, ArgAction, ArgMatches};
+use gtid_set::{GtidSet, SetFault, SetTextFault};
+use gtid_text::TextFault;
 use std::alloc::{AllocError, Global};
 
 /// A binary log file of a channel, as a word `<channel>=<file>` names it.
@@ -45,6 +47,15 @@ fn no_rows_flag<'a>(alloc: Global) -> Arg<'a> {
     )
 }
 
+fn accept_option<'a>(alloc: Global) -> Arg<'a> {
+    Arg::new(alloc, "accept")
+        .long("accept")
+        .value_name("SET")
+        .help(
+            "takes the statements of these GTIDs in binary log files, where they may be accepted: they change no row of the tables, and stop no replica",
+        )
+}
+
 fn binlogs_option<'a>(alloc: Global) -> Arg<'a> {
     Arg::new(alloc, "binlogs")
         .long("binlogs")
@@ -67,7 +78,9 @@ pub(crate) fn import_command<'a>(alloc: Global) -> Result<clap::Command<'a>, All
         .arg(foreign_keys_flag(alloc))?
         .arg(executed_flag(alloc))?
         .arg(no_rows_flag(alloc))?
+        .arg(accept_option(alloc))?
         .arg(binlogs_option(alloc))?
+        .arg(progress_flag(alloc))?
         .arg(flag(
             alloc,
             "explain",
@@ -82,6 +95,20 @@ pub(crate) fn grants_of(matches: &ArgMatches) -> Grants {
         without_foreign_keys: matches.get_flag("without-foreign-keys"),
         executed_unknown: matches.get_flag("executed-unknown"),
         no_rows: matches.get_flag("no-rows"),
+    }
+}
+
+/// The set that a word is; without a word it is empty.
+pub(crate) fn accepted_of(alloc: Global, matches: &ArgMatches) -> Result<GtidSet, CommandFault> {
+    let Some(word) = matches.get_str("accept") else {
+        return Ok(GtidSet::empty(alloc));
+    };
+    match GtidSet::from_text(alloc, word) {
+        Ok(accepted) => Ok(accepted),
+        Err(SetTextFault::Text(TextFault::Memory) | SetTextFault::Set(SetFault::Memory)) => {
+            Err(CommandFault::Memory)
+        }
+        Err(_) => Err(told(alloc, NO_SET)),
     }
 }
 

@@ -1,30 +1,21 @@
 ghost use Rattle.std.specs.Prelude.{◌≡◌, ℕ, ◌≤◌, IfOk, MatchOption, option_map};
 ghost use Rattle.gtidrep.specs.Line.{IsForOneToMost, file_of};
 
+use crate::audit_line::{Listing, audit_command, listing_of};
 use crate::help::{
-    APPLY_EXAMPLE, AUDIT_EXAMPLE, EVENTS_EXAMPLE, NO_HISTORY, POSITION_EXAMPLE, SET_EXAMPLE,
-    STATES_EXAMPLE, UPGRADE_EXAMPLE,
+    APPLY_EXAMPLE, EVENTS_EXAMPLE, NO_HISTORY, POSITION_EXAMPLE, SET_EXAMPLE, STATES_EXAMPLE,
+    UPGRADE_EXAMPLE,
 };
-use crate::import_line::{LogWord, grants_of, import_command, log_words};
+use crate::import_line::{LogWord, accepted_of, grants_of, import_command, log_words};
 use binlog_bundle::Grants;
 use binlog_events::EventDetail;
 use clap::builder::ValueParser;
 use clap::error::ErrorKind;
 use clap::{Arg, ArgAction, ArgMatches, Error};
 use commands::{Target, Way};
+use gtid_set::GtidSet;
 use serving::Order;
 use std::alloc::{AllocError, Global};
-
-/// What an audit prints beside its verdict.
-#[derive(Clone, Copy, Debug, PartialEq, Eq, Drop)]
-pub enum Listing {
-    /// The verdict alone.
-    Verdict,
-    /// All faults of all kinds.
-    All,
-    /// On standard error the places in the input of what the verdict names.
-    Explained,
-}
 
 /// One line of the program's commands, with its values.
 #[derive(Drop)]
@@ -54,11 +45,13 @@ pub enum Command<'a> {
     /// A bundle from standard input whose journals are the texts of binary logs is written by version 3, or its refusal is explained.
     Import {
         grants: Grants,
+        accepted: GtidSet,
         is_explained: bool,
     },
     /// A head from standard input is made a bundle with the journals of binary log files, or their refusal is explained.
     ImportFiles {
         grants: Grants,
+        accepted: GtidSet,
         is_explained: bool,
         files: Vec<LogWord<'a>>,
     },
@@ -80,6 +73,13 @@ pub enum Command<'a> {
         order: Order,
         workers: u8,
     },
+}
+
+/// A command, and whether its progress is told where standard error is a terminal.
+#[derive(Drop)]
+pub struct Wish<'a> {
+    pub command: Command<'a>,
+    pub shows_progress: bool,
 }
 
 /// Why the words are no command.
@@ -131,7 +131,7 @@ fn position_command<'a>(alloc: Global) -> Result<clap::Command<'a>, AllocError> 
 }
 
 /// The flag that asks for one order in place of sources that share no key.
-fn ordered_flag<'a>(alloc: Global) -> Arg<'a> {
+pub(crate) fn ordered_flag<'a>(alloc: Global) -> Arg<'a> {
     Arg::new(alloc, "ordered")
         .long("ordered")
         .action(ArgAction::SetTrue)
@@ -140,38 +140,21 @@ fn ordered_flag<'a>(alloc: Global) -> Arg<'a> {
         )
 }
 
-fn all_flag<'a>(alloc: Global) -> Arg<'a> {
-    Arg::new(alloc, "all")
-        .long("all")
-        .action(ArgAction::SetTrue)
-        .help(
-            "lists behind the verdict every other unequal GTID, purged journal, run of missing GTIDs, shared key, GTID that is not closed and source that does not apply",
-        )
-}
-
-fn explain_flag<'a>(alloc: Global) -> Result<Arg<'a>, AllocError> {
-    Arg::new(alloc, "explain")
-        .long("explain")
-        .action(ArgAction::SetTrue)
-        .help("shows on standard error where the input has what the verdict names")
-        .conflicts_with("all")
+/// The flag of a command that may read long.
+pub(crate) fn progress_flag<'a>(alloc: Global) -> Arg<'a> {
+    flag(
+        alloc,
+        "no-progress",
+        "tells nothing of how much was read; else a terminal on standard error shows it, once a second",
+    )
 }
 
 /// The command with one flag more, if there was memory for that flag.
-fn with_flag<'a>(
+pub(crate) fn with_flag<'a>(
     command: clap::Command<'a>,
     flag: Result<Arg<'a>, AllocError>,
 ) -> Result<clap::Command<'a>, AllocError> {
     command.arg(flag?)
-}
-
-fn audit_command<'a>(alloc: Global) -> Result<clap::Command<'a>, AllocError> {
-    let command = clap::Command::new(alloc, "audit")
-        .about("Says whether the journals of a bundle can be merged: audit < examples/ring.bundle")
-        .after_help(AUDIT_EXAMPLE)
-        .arg(all_flag(alloc))?;
-    let command = with_flag(command, explain_flag(alloc))?;
-    with_flag(command, ordered_flag(alloc).conflicts_with("all"))
 }
 
 /// The versions by which a bundle is written, by the words that name them.
@@ -267,7 +250,8 @@ fn apply_command<'a>(alloc: Global) -> Result<clap::Command<'a>, AllocError> {
         .after_help(APPLY_EXAMPLE)
         .arg(by_option(alloc))?
         .arg(workers)?
-        .arg(ordered_flag(alloc))?;
+        .arg(ordered_flag(alloc))?
+        .arg(progress_flag(alloc))?;
     with_flag(command, history_flag(alloc))
 }
 
@@ -347,17 +331,6 @@ fn target_of(matches: &ArgMatches) -> Target {
     }
 }
 
-fn listing_of(matches: &ArgMatches) -> Listing {
-    if matches.get_flag("explain") {
-        return Listing::Explained;
-    }
-    if matches.get_flag("all") {
-        Listing::All
-    } else {
-        Listing::Verdict
-    }
-}
-
 fn command_of<'a>(name: &str, matches: &ArgMatches<'a>) -> Option<Command<'a>>
     ensures { MatchOption result (Unit {0}) IsForOneToMost }
 {
@@ -420,33 +393,61 @@ fn import_of<'a>(alloc: Global, matches: &ArgMatches<'a>) -> Result<Command<'a>,
     ensures { IfOk result IsForOneToMost }
 {
     let grants = grants_of(matches);
+    let accepted = accepted_of(alloc, matches)?;
     let is_explained = matches.get_flag("explain");
     match matches.get_strs("binlogs") {
         None => Ok(Command::Import {
             grants,
+            accepted,
             is_explained,
         }),
         Some(words) => Ok(Command::ImportFiles {
             grants,
+            accepted,
             is_explained,
             files: log_words(alloc, words)?,
         }),
     }
 }
 
-/// The command that words are which `clap` takes. (Of these a merge that is asked for its history alone is none.)
-fn named_command<'a>(alloc: Global, matches: &ArgMatches<'a>) -> Result<Command<'a>, CommandFault>
+/// The commands that may read long.
+const LONG_COMMANDS: [&str; 3] = ["audit", "apply", "import"];
+
+/// Whether the progress of this command is told: unless its words say that it isn't.
+fn shows_progress(name: &str, matches: &ArgMatches) -> bool {
+    LONG_COMMANDS.contains(&name) && !matches.get_flag("no-progress")
+}
+
+/// The command of this name with these words. (A merge that is asked for its history alone is none.)
+fn command_named<'a>(
+    alloc: Global,
+    name: &str,
+    matches: &ArgMatches<'a>,
+) -> Result<Command<'a>, CommandFault>
     ensures { IfOk result IsForOneToMost }
+{
+    if name == "import" {
+        return import_of(alloc, matches);
+    }
+    match command_of(name, matches) {
+        Some(command) => Ok(command),
+        None => Err(told(alloc, NO_HISTORY)),
+    }
+}
+
+/// The command that words are which `clap` takes.
+fn wish_of<'a>(alloc: Global, matches: &ArgMatches<'a>) -> Result<Wish<'a>, CommandFault>
+    ensures { IfOk result (λ wish. IsForOneToMost wish.command) }
 {
     let Some((name, inner)) = matches.subcommand() else {
         return Err(told(alloc, NO_HISTORY));
     };
-    if name == "import" {
-        return import_of(alloc, inner);
-    }
-    match command_of(name, inner) {
-        Some(command) => Ok(command),
-        None => Err(told(alloc, NO_HISTORY)),
+    match command_named(alloc, name, inner) {
+        Ok(command) => Ok(Wish {
+            command,
+            shows_progress: shows_progress(name, inner),
+        }),
+        Err(fault) => Err(fault),
     }
 }
 
@@ -469,15 +470,18 @@ fn fault_of(alloc: Global, error: Error) -> CommandFault {
 }
 
 /// Reads the words after the program's name.
-pub fn parse_line<'a>(alloc: Global, words: &'a [String]) -> Result<Command<'a>, CommandFault>
-    ensures { IfOk result IsForOneToMost }
+pub fn parse_line<'a>(alloc: Global, words: &'a [String]) -> Result<Wish<'a>, CommandFault>
+    ensures { IfOk result (λ wish. IsForOneToMost wish.command) }
 {
     let Ok(commands) = all_commands(alloc) else {
         return Err(CommandFault::Memory);
     };
     match commands.no_binary_name(true).try_get_matches_from(words) {
-        Ok(matches) => named_command(alloc, &matches),
-        Err(error) if error.kind() == ErrorKind::DisplayVersion => Ok(Command::Version),
+        Ok(matches) => wish_of(alloc, &matches),
+        Err(error) if error.kind() == ErrorKind::DisplayVersion => Ok(Wish {
+            command: Command::Version,
+            shows_progress: false,
+        }),
         Err(error) => Err(fault_of(alloc, error)),
     }
 }

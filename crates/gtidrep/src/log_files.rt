@@ -2,6 +2,7 @@
 
 use crate::ending::{Ending, ran_over_file};
 use crate::import_line::LogWord;
+use crate::progress::{Progress, ToldSource};
 use binlog_bundle::ChannelFiles;
 use commands::{RunFault, StdSource, read_all};
 use std::alloc::{AllocError, Global};
@@ -19,13 +20,19 @@ pub(crate) fn open_file(rt: &HostRuntime, name: &str) -> Result<File, Ending> {
     }
 }
 
-/// All bytes of the file of this name, or how the program ends without them.
-fn read_log(rt: &HostRuntime, name: &str) -> Result<Vec<u8>, Ending> {
+/// All bytes of the file of this name, or how the program ends without them. Its progress is told.
+fn read_log(rt: &HostRuntime, progress: &mut Progress<'_>, name: &str) -> Result<Vec<u8>, Ending> {
     let file = match open_file(rt, name) {
         Ok(file) => file,
         Err(ending) => return Err(ending),
     };
-    match read_all(rt.alloc(), &mut StdSource::new(file)) {
+    let mut source = ToldSource {
+        source: StdSource::new(file),
+        progress: *progress,
+    };
+    let read = read_all(rt.alloc(), &mut source);
+    *progress = source.progress;
+    match read {
         Ok(bytes) => Ok(bytes),
         Err(fault) => Err(ran_over_file(Err(fault))),
     }
@@ -56,14 +63,15 @@ fn add_file(
     Ok(())
 }
 
-/// The files that words name, by their channels, or how the program ends without them.
+/// The files that words name, by their channels, or how the program ends without them. Its progress is told.
 pub(crate) fn read_logs(
     rt: &HostRuntime,
+    progress: &mut Progress<'_>,
     words: &[LogWord<'_>],
 ) -> Result<Vec<ChannelFiles>, Ending> {
     let mut logs = Vec::new(rt.alloc());
     for word in words {
-        let file = match read_log(rt, word.file) {
+        let file = match read_log(rt, progress, word.file) {
             Ok(file) => file,
             Err(ending) => return Err(ending),
         };

@@ -1,37 +1,41 @@
 //! The program `gtidrep`: the command line, and a command of crate `commands` over standard input, or a file, and standard output.
 //!
 //!     set <function> <a> [<b>]               position --own <uuid> --ask <set> < journal
-//!     audit [--all | --explain | --ordered] < bundle
+//!     audit [--all | --summary | --explain | --ordered] < bundle
 //!     apply [--by merge|replica] [--history] [--ordered] [--workers N] < bundle
-//!     import [--bytes] [--without-foreign-keys] [--executed-unknown] [--no-rows] [--explain] < bundle of logs
+//!     import [--bytes] [--without-foreign-keys] [--executed-unknown] [--no-rows] [--accept <set>] [--explain] < bundle of logs
 //!     import --binlogs <channel>=<file>.. [the same] < head of a bundle
 //!     upgrade < bundle                       states < servers          events [<file>] < binary log
-//!     --version
+//!     --version                              audit, apply and import also: --no-progress
 //!
 //! Exit status: 0 done, 1 refused, 2 the command line, 3 out of memory, 4 reading or writing failed (`exit_status`). With 3 and 4 one
 //! line on standard error reports what failed; with 2 standard error has what is wrong with the words; with 0 and 1 it is empty
 //! (`message`, which allocates nothing), but for what `--explain` and `--history` show there and what `import` reports there: its refusal,
-//! or what a verdict on the bundle can't see.
+//! or what a verdict on the bundle can't see. A terminal on standard error is told how much was read (`progress`).
 //!
 //! What is written is proved in `commands`. Proved here: that each command's answer is written (`run_over`), the status and message for each
 //! end, and that a number of workers is 1 to 64 (`parse_line`).
 //!
 //! Not proved: which command the words name, for the kit's `clap` has no contract from which it would follow, and that the bytes which came
-//! are those of the file that the words name (what a file gives is in no contract). That is tested by `tests/cases`.
+//! are those of the file that the words name (what a file gives is in no contract). That is tested by `tests/cases`, and what is told of
+//! progress by `tests/progress`.
 #![tactic(auto)]
 
 ghost use Rattle.gtidrep.specs.Line.{IsForOneToMost};
 
+mod audit_line;
 mod ending;
 mod help;
 mod import_line;
 mod line;
 mod log_files;
+mod progress;
 mod running;
 
 use crate::ending::{Ending, exit_status, message, ran_over_file};
-use crate::line::{Command, CommandFault, file_of, logs_of, parse_line};
+use crate::line::{Command, CommandFault, Wish, file_of, logs_of, parse_line};
 use crate::log_files::{open_file, read_logs};
+use crate::progress::{Progress, ToldSource};
 use crate::running::run_over;
 use binlog_bundle::ChannelFiles;
 use commands::{Outcome, RunFault, StdSink, StdSource, Streams};
@@ -55,17 +59,22 @@ fn read_words(rt: &HostRuntime) -> Result<Vec<String>, CommandFault> {
     }
 }
 
-/// Runs a command over this reader and standard output.
+/// Runs a command over this reader and standard output, and tells its progress.
 fn run_over_reader<R: Read + Send + Drop, T: Threads + Wait + Sync>(
     rt: &HostRuntime,
     threads: &T,
     command: Command,
     logs: &[ChannelFiles],
+    progress: Progress<'_>,
     reader: R,
 ) -> Result<Outcome, RunFault>
     requires { IsForOneToMost command }
 {
-    let mut streams = Streams::new(StdSource::new(reader), StdSink::new(io::writer(rt)));
+    let source = ToldSource {
+        source: StdSource::new(reader),
+        progress,
+    };
+    let mut streams = Streams::new(source, StdSink::new(io::writer(rt)));
     let mut errors = StdSink::new(rt.stderr());
     run_over(
         threads,
@@ -77,41 +86,39 @@ fn run_over_reader<R: Read + Send + Drop, T: Threads + Wait + Sync>(
     )
 }
 
-/// Runs a command over standard input, with the binary log files of channels.
-fn run_with_logs<T: Threads + Wait + Sync>(
-    rt: &HostRuntime,
-    threads: &T,
-    command: Command,
-    logs: &[ChannelFiles],
-) -> Ending
-    requires { IsForOneToMost command }
-{
-    Ending::Ran(run_over_reader(rt, threads, command, logs, rt.reader()))
-}
-
 /// Runs a command over standard input, and the binary log files that its words name.
 fn run_over_input<T: Threads + Wait + Sync>(
     rt: &HostRuntime,
     threads: &T,
     command: Command,
+    progress: Progress<'_>,
 ) -> Ending
     requires { IsForOneToMost command }
 {
-    match read_logs(rt, logs_of(&command)) {
-        Ok(logs) => run_with_logs(rt, threads, command, &logs),
+    let mut progress = progress;
+    match read_logs(rt, &mut progress, logs_of(&command)) {
+        Ok(logs) => Ending::Ran(run_over_reader(
+            rt,
+            threads,
+            command,
+            &logs,
+            progress,
+            rt.reader(),
+        )),
         Err(ending) => ending,
     }
 }
 
 /// Runs a command over the file that its words name, or else over standard input.
-fn run_command<T: Threads + Wait + Sync>(rt: &HostRuntime, threads: &T, command: Command) -> Ending
-    requires { IsForOneToMost command }
+fn run_command<T: Threads + Wait + Sync>(rt: &HostRuntime, threads: &T, wish: Wish) -> Ending
+    requires { IsForOneToMost wish.command }
 {
-    let Some(name) = file_of(&command) else {
-        return run_over_input(rt, threads, command);
+    let progress = Progress::new(rt, wish.shows_progress);
+    let Some(name) = file_of(&wish.command) else {
+        return run_over_input(rt, threads, wish.command, progress);
     };
     match open_file(rt, name) {
-        Ok(file) => ran_over_file(run_over_reader(rt, threads, command, &[], file)),
+        Ok(file) => ran_over_file(run_over_reader(rt, threads, wish.command, &[], progress, file)),
         Err(ending) => ending,
     }
 }
@@ -119,7 +126,7 @@ fn run_command<T: Threads + Wait + Sync>(rt: &HostRuntime, threads: &T, command:
 /// Runs the command that the words name.
 fn run<T: Threads + Wait + Sync>(rt: &HostRuntime, threads: &T, words: &[String]) -> Ending {
     match parse_line(rt.alloc(), words) {
-        Ok(command) => run_command(rt, threads, command),
+        Ok(wish) => run_command(rt, threads, wish),
         Err(fault) => Ending::NoCommand(fault),
     }
 }

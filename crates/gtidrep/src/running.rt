@@ -3,12 +3,13 @@ ghost use Rattle.std.specs.Prelude.{◌≡◌, [], IfOk, IfErr};
 ghost use Rattle.gtidrep.specs.Line.{IsForOneToMost};
 ghost use Rattle.gtidrep.specs.Running.{doing_of, HasRun, HasNotRun};
 
-use crate::line::{Command, Listing};
+use crate::audit_line::Listing;
+use crate::line::Command;
 use binlog_bundle::ChannelFiles;
 use commands::{
     Outcome, RunFault, Sink, Source, Streams, apply_and_tell, apply_bundle, run_audit, run_events,
     run_explain, run_import, run_import_files, run_list, run_position, run_set, run_states,
-    run_upgrade, run_version,
+    run_summary, run_upgrade, run_version,
 };
 use serving::Order;
 use std::alloc::Global;
@@ -29,6 +30,7 @@ fn run_listing<S: Source, W: Sink, E: Sink>(
     match listing {
         Listing::Verdict => run_audit(alloc, order, streams),
         Listing::All => run_list(alloc, streams),
+        Listing::Summary => run_summary(alloc, streams),
         Listing::Explained => run_explain(alloc, order, streams, errors),
     }
 }
@@ -60,13 +62,23 @@ pub fn run_over<T: Threads + Wait + Sync, S: Source + Send, W: Sink, E: Sink>(
         Command::States => run_states(alloc, streams),
         Command::Import {
             grants,
+            accepted,
             is_explained,
-        } => run_import(alloc, grants, is_explained, streams, errors),
+        } => run_import(alloc, grants, &accepted, is_explained, streams, errors),
         Command::ImportFiles {
             grants,
+            accepted,
             is_explained,
             files: _files,
-        } => run_import_files(alloc, grants, is_explained, logs, streams, errors),
+        } => run_import_files(
+            alloc,
+            grants,
+            &accepted,
+            is_explained,
+            logs,
+            streams,
+            errors,
+        ),
         Command::Events { file: _, detail } => run_events(alloc, detail, streams),
         Command::Version => run_version(alloc, streams),
         Command::Apply {

@@ -9,7 +9,7 @@ use Rattle.gtid_set.specs.Sets.{Gtids}
 use Rattle.gtid_text.specs.declared.Gtid.{Gtid}
 use Rattle.journal.specs.declared.Entry.{Entry}
 use Rattle.rows.specs.declared.change.Change.{Change}
-use Rattle.log_transactions.specs.Events.{Event, Opens, Precedes, Names, Begins, Varies, Rows, Row, Commits, Flushes}
+use Rattle.log_transactions.specs.Events.{Event, Opens, Precedes, Names, Begins, Varies, Rows, Row, Commits, Maintains}
 use Rattle.log_transactions.specs.Files.{has_come}
 use Rattle.log_transactions.specs.Machine.{LogState, is_idle, is_named, is_begun, entry_of, behind, unless, row_refusal, refusal, taken, and_then, runs, start}
 use Rattle.log_transactions.specs.Meaning.{EventMeaning, Of, Changed, Committed, means, meaning, executed_before, varied_in, StatementsEnd, NoGap, meaning_of_entry, meaning_of_entries, AreOfLog}
@@ -83,12 +83,12 @@ commit_spelled entries stages.Begun g cs e =
     ∙ sym (append_assoc (meaning_of_entries entries) (Of g ∷ map Changed cs) (Committed ∷ []))
 commit_spelled entries _ g cs e = absurd cc
 
-flush_spelled : (entries : List Entry) (stage : TransactionStage) (g : Gtid) (cs : List Change) → is_named stage ≡ true → meaning_of_entries (entries ++ entry_of g [] ∷ []) ++ [] ≡ (meaning_of_entries entries ++ spelled_open stage g cs) ++ Committed ∷ []
-flush_spelled entries stages.Named g cs e =
+maintenance_spelled : (entries : List Entry) (stage : TransactionStage) (g : Gtid) (cs : List Change) → is_named stage ≡ true → meaning_of_entries (entries ++ entry_of g [] ∷ []) ++ [] ≡ (meaning_of_entries entries ++ spelled_open stage g cs) ++ Committed ∷ []
+maintenance_spelled entries stages.Named g cs e =
     append-nil (meaning_of_entries (entries ++ entry_of g [] ∷ []))
     ∙ flat_map_more meaning_of_entry entries (entry_of g [])
     ∙ sym (append_assoc (meaning_of_entries entries) (Of g ∷ []) (Committed ∷ []))
-flush_spelled entries _ g cs e = absurd cc
+maintenance_spelled entries _ g cs e = absurd cc
 
 row_begun : (s : LogState) (c : Change) → row_refusal s c ≡ None → is_begun s.stage ≡ true
 row_begun s c may = (and_parts (is_begun s.stage) s.is_over (if_not_none (is_begun s.stage && s.is_over) refusals.Transaction _ may)).0
@@ -114,9 +114,9 @@ tells s Commits quiet may =
       spells = commit_spelled s.entries s.stage s.gtid s.changes begun;
       quiet = λ b. refl;
     }
-tells s Flushes quiet may =
+tells s Maintains quiet may =
     let named = unless_none refusals.Transaction (is_named s.stage) may in record {
-      spells = flush_spelled s.entries s.stage s.gtid s.changes named;
+      spells = maintenance_spelled s.entries s.stage s.gtid s.changes named;
       quiet = λ b. quiet (named_not_begun s.stage named);
     }
 tells s _ quiet may = record { spells = sym (append-nil (spelled s)); quiet = quiet }

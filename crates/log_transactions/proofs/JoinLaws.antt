@@ -13,6 +13,9 @@ use Rattle.journal.proofs.EntryLemmas.{union_numbers}
 
 -- ---- one interval after another
 
+pub itself_kept : (whole : Gtids) → set.union whole whole ≡ whole
+itself_kept whole = union_itself whole
+
 pub next_joined : (whole new total : Gtids) (s : Span) (ss : List Span) → set.union whole (set_of (s ∷ ss)) ≡ total → new ≡ set.union whole (interval s.source s.lo s.hi) → set.union new (set_of ss) ≡ total
 next_joined whole new total s ss e grown =
     ap (λ (a : Gtids). set.union a (set_of ss)) grown

@@ -1,34 +1,46 @@
 -- The name of a table is ASCII, and so it is text.
-use Rattle.std.proofs.Common.{◌≡◌, ℕ, zero, suc, ◌<◌, Bool, true, false, cond, List, [], ◌∷◌, Some, None, sym, ap, arith}
-use Rattle.std.specs.Prelude.{◌&&◌, not}
-use Rattle.std.specs.List.{list_all}
+use Rattle.std.proofs.Common.{◌≡◌, ℕ, zero, suc, ◌<◌, ◌/◌, ◌%◌, Bool, true, false, cond, List, [], ◌∷◌, Some, None, refl, slice_index_or, arith}
 use Rattle.std.specs.Str.{IsAscii, IsUtf8}
-use Rattle.std.proofs.lemmas.Bool.{false_from_ne_true, and_parts}
 use Rattle.std.proofs.lemmas.Bool.Decides.{nat_tests}
-use Rattle.std.proofs.lemmas.Str.{IsUtf8-from_ascii}
-use Rattle.rows.specs.Names.{is_short_name_byte, begins_with_digit, has_short_length, is_short_name}
-use Rattle.log_transactions.specs.Tables.{table_name}
+use Rattle.std.proofs.lemmas.Str.{IsUtf8-from_ascii, IsAscii-append}
+use Rattle.rows.specs.Names.{is_plain, is_name}
+use Rattle.log_transactions.specs.Tables.{hex_digit, escaped_byte, escaped, joined_name, table_name}
 
-below : (b : ℕ) → is_short_name_byte b ≡ true → b < 128
-below b e = grind (arith, nat_tests, e)
+plain_ascii : (b : ℕ) → is_plain b ≡ true → b < 128
+plain_ascii b e = grind (arith, nat_tests, e)
 
-all_ascii : (w : List ℕ) → list_all is_short_name_byte w ≡ true → IsAscii w
-all_ascii [] e i = omega arith
-all_ascii (b ∷ bs) e zero = below b (and_parts (is_short_name_byte b) (list_all is_short_name_byte bs) e).0
-all_ascii (b ∷ bs) e (suc i) = all_ascii bs (and_parts (is_short_name_byte b) (list_all is_short_name_byte bs) e).1 i
+digit_ascii : (d : ℕ) → d < 16 → hex_digit d < 128
+digit_ascii d h = grind (arith, nat_tests)
 
-name_text : (w : List ℕ) → is_short_name w ≡ true → IsUtf8 w
-name_text w e =
-    let p = and_parts (has_short_length w && list_all is_short_name_byte w) (not (begins_with_digit w)) e in
-    IsUtf8-from_ascii w (all_ascii w (and_parts (has_short_length w) (list_all is_short_name_byte w) p.0).1)
+-- ---- escapes
 
-pub not_text : (word : List ℕ) → (IsUtf8 word → ⊥) → None ≡ table_name word
-not_text word h = ap (λ (b : Bool). cond b (Some word) None) (sym (false_from_ne_true (is_short_name word) (λ e. h (name_text word e))))
+byte_ascii : (p : Bool) (b : ℕ) → b < 256 → (p ≡ true → b < 128) → IsAscii (cond p (b ∷ []) (37 ∷ hex_digit (b / 16) ∷ hex_digit (b % 16) ∷ []))
+byte_ascii true b h plain zero = plain refl
+byte_ascii true b h plain (suc i) = omega arith
+byte_ascii false b h plain zero = omega arith
+byte_ascii false b h plain (suc zero) = digit_ascii (b / 16) (omega arith)
+byte_ascii false b h plain (suc (suc zero)) = digit_ascii (b % 16) (omega arith)
+byte_ascii false b h plain (suc (suc (suc i))) = omega arith
 
-named : (b : Bool) (word name : List ℕ) → Some name ≡ cond b (Some word) None → name ≡ word
-named true word name e = cc
-named false word name e = absurd cc
+part_ascii : (bs : List ℕ) → ((i : ℕ) → slice_index_or bs i 0 < 256) → IsAscii (escaped bs)
+part_ascii [] h = λ i. omega arith
+part_ascii (b ∷ bs) h = IsAscii-append (escaped_byte b) (escaped bs) (byte_ascii (is_plain b) b (h 0) (plain_ascii b)) (part_ascii bs (λ i. h (suc i)))
 
--- the name that a word is
-pub named_word : (word name : List ℕ) → Some name ≡ table_name word → name ≡ word
-named_word word name e = named (is_short_name word) word name e
+dot_ascii : (bs : List ℕ) → IsAscii bs → IsAscii (46 ∷ bs)
+dot_ascii bs h zero = omega arith
+dot_ascii bs h (suc i) = h i
+
+-- ---- names
+
+pub name_text : (database table : List ℕ) → ((i : ℕ) → slice_index_or database i 0 < 256) → ((i : ℕ) → slice_index_or table i 0 < 256) → IsUtf8 (joined_name database table)
+name_text database table small tiny =
+    IsUtf8-from_ascii (joined_name database table)
+    (IsAscii-append (escaped database) (46 ∷ escaped table) (part_ascii database small) (dot_ascii (escaped table) (part_ascii table tiny)))
+
+named : (b : Bool) (text name : List ℕ) → Some name ≡ cond b (Some text) None → name ≡ text
+named true text name e = cc
+named false text name e = absurd cc
+
+-- the name that a table has
+pub named_table : (database table name : List ℕ) → Some name ≡ table_name database table → name ≡ joined_name database table
+named_table database table name e = named (is_name (joined_name database table)) (joined_name database table) name e

@@ -8,7 +8,7 @@ use Rattle.rows.specs.declared.change.Change.{Change}
 -- A file begins with the set that was executed before it, and these are GTIDs of that set. A transaction has this GTID, and begins. It maps
 -- a table of a database, by their names, and the table that it maps has so many columns. A column of a table, counted from 0, is compared
 -- otherwise than by its bytes: by this collation, where it is one whose weights are known. A rows event comes, which ends its statement or doesn't. A row is changed.
--- A savepoint is set. The transaction commits. A flush is a transaction without changes. A file, or the log, ends.
+-- A savepoint is set. The transaction commits. A statement of maintenance is a transaction without changes. A file, or the log, ends.
 pub data Event : Type 0 where
   Opens : Event
   Precedes : Gtids → Event
@@ -21,5 +21,5 @@ pub data Event : Type 0 where
   Row : Change → Event
   Savepoint : Event
   Commits : Event
-  Flushes : Event
+  Maintains : Event
   Ends : Event

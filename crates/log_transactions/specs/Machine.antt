@@ -1,7 +1,6 @@
 -- How far the events of a log have come, and what each adds: tables, changes, entries.
 use Rattle.std.specs.Prelude.{◌≡◌, ◌⊎◌, ℕ, ◌==◌, ◌&&◌, not, is_some, Bool, true, false, List, [], ◌∷◌, ◌++◌, length, Option, Some, None, Result, Ok, Err, if◌then◌else◌}
 use Rattle.std.specs.FinSet as set
-use Rattle.std.specs.Str.{bytes_eq}
 use Rattle.gtid_text.specs.declared.Gtid.{Gtid}
 use Rattle.gtid_set.specs.Full.{HasManySources, HasManyIntervals, IsFaultOf, IsMemoryOr}
 use Rattle.gtid_set.specs.Sets.{Gtids}
@@ -11,9 +10,9 @@ use Rattle.journal.specs.declared.Entry.{Entry}
 use Rattle.rows.specs.Fits.{table_of}
 use Rattle.rows.specs.declared.change.Change.{Change}
 use Rattle.rows.specs.declared.change.Change.TheVariants as changes
-use Rattle.log_transactions.specs.Events.{Event, Opens, Precedes, Names, Begins, Maps, Columns, Varies, Rows, Row, Savepoint, Commits, Flushes, Ends}
+use Rattle.log_transactions.specs.Events.{Event, Opens, Precedes, Names, Begins, Maps, Columns, Varies, Rows, Row, Savepoint, Commits, Maintains, Ends}
 use Rattle.log_transactions.specs.Files.{is_later, next_file, has_come, come_behind}
-use Rattle.log_transactions.specs.Tables.{find_table, table_name}
+use Rattle.log_transactions.specs.Tables.{find_table, joined_name, table_name}
 use Rattle.log_transactions.specs.declared.mapped.StatementTable.{StatementTable}
 use Rattle.log_transactions.specs.Varied.{with_varied}
 use Rattle.log_transactions.specs.declared.fault.EventFault.{EventFault}
@@ -41,8 +40,6 @@ pub record LogState : Type 0 where
   pub is_over : Bool
   -- rows events of a statement have come, and none of them has ended it
   pub is_open : Bool
-  -- the one database of the log, once it is named
-  pub database : Option (List ℕ)
   -- the table whose columns come, and those that the statement has mapped before
   pub mapping : Option (List ℕ)
   pub tables : List StatementTable
@@ -64,6 +61,10 @@ abbrev pub is_begun : TransactionStage → Bool
 is_begun stages.Begun = true
 is_begun _ = false
 
+-- the GTID of a transaction of which nothing else has come
+abbrev pub named : LogState → Option Gtid
+named s = if is_named s.stage then Some s.gtid else None
+
 -- ---- what an event adds
 
 abbrev pub previous_behind : Bool → Gtids → Gtids → Gtids
@@ -82,20 +83,20 @@ with_columns tables None columns = tables
 with_columns tables (Some table) columns = tables ++ record { name = table; columns = columns } ∷ []
 
 -- What was executed before is what comes before the first GTID; later files repeat what has come. A table that is mapped behind rows is
--- another statement's. A flush is a transaction without changes.
+-- another statement's. A statement of maintenance is a transaction without changes.
 abbrev pub behind : LogState → Event → LogState
 behind s Opens = record s { file = next_file s.file }
 behind s (Precedes gtids) = record s { previous = previous_behind s.is_fresh s.previous gtids; come = come_behind s.file s.come gtids }
 behind s (Names gtid) = record s { stage = stages.Named; gtid = gtid; is_fresh = false; file = files.Later; come = set.insert s.come gtid }
 behind s Begins = record s { stage = stages.Begun }
-behind s (Maps database table) = record s { is_over = false; database = Some database; mapping = Some table; tables = if s.is_over then [] else s.tables }
+behind s (Maps database table) = record s { is_over = false; mapping = Some (joined_name database table); tables = if s.is_over then [] else s.tables }
 behind s (Columns columns) = record s { mapping = None; tables = with_columns s.tables s.mapping columns }
 behind s (Varies table column collation) = record s { varied = with_varied s.varied table column collation }
 behind s (Rows ends) = record s { is_over = true; is_open = not ends }
 behind s (Row change) = record s { changes = s.changes ++ change ∷ [] }
 behind s Savepoint = s
 behind s Commits = record (with_entry s s.changes) { changes = [] }
-behind s Flushes = with_entry s []
+behind s Maintains = with_entry s []
 behind s Ends = s
 
 -- ---- where an event is refused
@@ -103,11 +104,6 @@ behind s Ends = s
 -- it is not, where this holds
 abbrev pub unless : EventRefusal → Bool → Option EventRefusal
 unless refusal holds = if holds then None else Some refusal
-
--- it is the log's database, or none is named yet
-abbrev pub may_be_database : List ℕ → Option (List ℕ) → Bool
-may_be_database name None = true
-may_be_database name (Some database) = bytes_eq database name
 
 -- each image has so many values
 abbrev pub are_images : Change → ℕ → Bool
@@ -125,12 +121,11 @@ row_refusal s change =
     if not (is_begun s.stage && s.is_over) then Some refusals.Transaction
     else image_refusal change (find_table (table_of change) s.tables)
 
--- a table is mapped in a transaction that has begun; it is of the log's database, and its name is one of ours
+-- a table is mapped in a transaction that has begun, and has a name
 abbrev pub map_refusal : LogState → List ℕ → List ℕ → Option EventRefusal
 map_refusal s database table =
     if not (is_begun s.stage) then Some refusals.Transaction
-    else if not (may_be_database database s.database) then Some refusals.Table
-    else unless refusals.Table (is_some (table_name table))
+    else unless refusals.Table (is_some (table_name database table))
 
 -- why an event is refused, or none
 abbrev pub refusal : LogState → Event → Option EventRefusal
@@ -145,17 +140,12 @@ refusal s (Rows ends) = unless refusals.Transaction (is_begun s.stage)
 refusal s (Row change) = row_refusal s change
 refusal s Savepoint = unless refusals.Transaction (is_begun s.stage)
 refusal s Commits = unless refusals.Transaction (not s.is_open && is_begun s.stage)
-refusal s Flushes = unless refusals.Transaction (is_named s.stage)
+refusal s Maintains = unless refusals.Transaction (is_named s.stage)
 refusal s Ends = unless refusals.Transaction (is_idle s.stage)
 
--- it is the log's database
-abbrev pub is_database : List ℕ → Option (List ℕ) → Bool
-is_database name None = false
-is_database name (Some database) = bytes_eq database name
-
--- the statement maps a table of this name, of this database
-abbrev pub has_table : LogState → List ℕ → List ℕ → Bool
-has_table s database table = is_database database s.database && is_some (find_table table s.tables)
+-- the statement maps a table of this name
+abbrev pub has_table : LogState → List ℕ → Bool
+has_table s name = is_some (find_table name s.tables)
 
 -- ---- events, one after another
 
@@ -185,7 +175,6 @@ start opening = record {
   come = opening;
   is_over = false;
   is_open = false;
-  database = None;
   mapping = None;
   tables = [];
   changes = [];

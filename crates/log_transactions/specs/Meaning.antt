@@ -6,7 +6,7 @@ use Rattle.gtid_set.specs.Sets.{Gtids}
 use Rattle.gtid_text.specs.declared.Gtid.{Gtid}
 use Rattle.journal.specs.declared.Entry.{Entry}
 use Rattle.rows.specs.declared.change.Change.{Change}
-use Rattle.log_transactions.specs.Events.{Event, Opens, Precedes, Names, Varies, Rows, Row, Commits, Flushes}
+use Rattle.log_transactions.specs.Events.{Event, Opens, Precedes, Names, Varies, Rows, Row, Commits, Maintains}
 use Rattle.log_transactions.specs.Files.{next_file, has_come, come_behind}
 use Rattle.log_transactions.specs.Machine.{LogState, is_idle, runs, start}
 use Rattle.log_transactions.specs.Varied.{with_varied}
@@ -26,7 +26,7 @@ abbrev pub means : Event → List EventMeaning
 means (Names gtid) = Of gtid ∷ []
 means (Row change) = Changed change ∷ []
 means Commits = Committed ∷ []
-means Flushes = Committed ∷ []
+means Maintains = Committed ∷ []
 means _ = []
 
 -- what events mean, in order

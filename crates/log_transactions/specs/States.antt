@@ -1,5 +1,4 @@
 -- How far the events of a log have come, as a contract sees it.
-use Rattle.std.specs.Prelude.{option_map}
 use Rattle.log_transactions.specs.Machine.{LogState}
 use Rattle.log_transactions.specs.declared.machine.LogTransactions.{LogTransactions}
 
@@ -13,7 +12,6 @@ state m = record {
   come = m.come;
   is_over = m.is_over;
   is_open = m.is_open;
-  database = option_map (λ v. v.items) m.database;
   mapping = m.mapping;
   tables = m.tables;
   changes = m.changes.items;

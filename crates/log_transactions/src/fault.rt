@@ -13,7 +13,7 @@ pub enum EventRefusal {
     Gtid,
     /// An event of a transaction outside of one, a second beginning, or an end within a statement of rows.
     Transaction,
-    /// A table that no event of the statement maps, a name that is none of ours, or a second database.
+    /// A table that no event of the statement maps, or one without a name.
     Table,
     /// A row that lacks a column, or has one too many.
     Columns,

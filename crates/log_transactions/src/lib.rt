@@ -7,10 +7,11 @@
 //! collations that the log says. `has_other` tells whether it says another collation of a column than a given one.
 //! `events_mean_entries` is the law that events which are taken, up to the end of their last transaction, are so.
 //!
-//! Each transaction has a GTID, begins and ends once (or is a flush, without changes), and no statement of rows is open where it ends
+//! Each transaction has a GTID, begins and ends once (or is a statement of maintenance, without changes), and no statement of rows is open where it ends
 //! (`StatementsEnd`). A row comes behind a rows event of its transaction; its table is one that the statement maps, and it has a value for each
 //! column. The previous set of each file but the first lies within the opening set, the previous set of the first file and the GTIDs that
-//! came (`NoGap`): else a file was left out. A log is of one database.
+//! came (`NoGap`): else a file was left out. A log has tables of any number of databases: a table's name is that of its database and its own,
+//! with a dot between them and escapes (`table_name`).
 //!
 //! What stays with whoever reads the events: where they are in their text or file, the types and the values of columns, and what has no
 //! place here, as statements and distributed transactions.

@@ -1,11 +1,11 @@
 //! Transactions as far as the events of a log have come.
 ghost use Rattle.std.specs.List.{list_all};
-ghost use Rattle.std.specs.Prelude.{◌≡◌, true, false, [], None, Ok, Err, OnOk, IfOk, IfErr, length, option_map, if◌then◌else◌};
+ghost use Rattle.std.specs.Prelude.{◌≡◌, ℕ, List, true, false, [], None, Ok, Err, OnOk, IfOk, IfErr, length, option_map, if◌then◌else◌};
 ghost use Rattle.std.specs.FinSet as set;
 ghost use Rattle.gtid_set.specs.Full.{IsFaultOf};
 ghost use Rattle.gtid_set.specs.Laws.{HaveNumbers};
 ghost use Rattle.gtid_set.specs.declared.fault.SetFault.TheVariants.{Memory};
-ghost use Rattle.log_transactions.specs.Machine.{is_database, may_be_database, are_images};
+ghost use Rattle.log_transactions.specs.Machine.{are_images};
 ghost use Rattle.journal.specs.Writing.{is_number};
 ghost use Rattle.log_transactions.specs.Files.{is_later, has_come, come_behind};
 
@@ -53,8 +53,6 @@ pub struct LogTransactions {
     is_over: bool,
     /// Rows events of the statement have come, and none of them has ended it.
     is_open: bool,
-    /// The one database of the log, once it is named.
-    database: Option<Vec<u8>>,
     /// The table whose columns come.
     mapping: Option<Name>,
     /// Those that the statement has mapped before.
@@ -85,24 +83,6 @@ fn has_come(
     has_all(alloc, come, gtids)
 }
 
-fn is_database(name: &[u8], database: &Option<Vec<u8>>) -> bool
-    ensures { result ≡ is_database name.now (option_map (λ v. v.items) database.now) }
-{
-    match database {
-        Some(database) => database.as_slice() == name,
-        None => false,
-    }
-}
-
-fn may_be_database(name: &[u8], database: &Option<Vec<u8>>) -> bool
-    ensures { result ≡ may_be_database name.now (option_map (λ v. v.items) database.now) }
-{
-    match database {
-        Some(database) => database.as_slice() == name,
-        None => true,
-    }
-}
-
 /// Whether each image of a change has so many values.
 fn are_images(change: &Change, columns: usize) -> bool
     ensures { result ≡ are_images change.now columns }
@@ -115,9 +95,10 @@ fn are_images(change: &Change, columns: usize) -> bool
 }
 
 impl LogTransactions {
-    ghost use Rattle.log_transactions.specs.Events.{Opens, Precedes, Names, Begins, Maps, Columns, Varies, Rows, Row, Savepoint, Commits, Flushes, Ends};
-    ghost use Rattle.log_transactions.specs.Machine.{is_idle, is_begun, has_table, previous_behind, with_entry, row_refusal, behind, start, TakesOr, Takes, TakesOrMemory, Finds, IsPreviousFault, IsNameFault};
+    ghost use Rattle.log_transactions.specs.Events.{Opens, Precedes, Names, Begins, Maps, Columns, Varies, Rows, Row, Savepoint, Commits, Maintains, Ends};
+    ghost use Rattle.log_transactions.specs.Machine.{is_idle, is_begun, named, has_table, previous_behind, with_entry, row_refusal, behind, start, TakesOr, Takes, TakesOrMemory, Finds, IsPreviousFault, IsNameFault};
     ghost use Rattle.log_transactions.specs.States.{state};
+    ghost use Rattle.log_transactions.specs.Tables.{joined_name};
 
     /// Before the first event. What comes before the log is in the opening set.
     #[tactic(auto, using(journal::proofs::EntryLemmas::no_numbers), unfolding(gtid_set::specs::Sets::greatest))]
@@ -136,7 +117,6 @@ impl LogTransactions {
             come: opening,
             is_over: false,
             is_open: false,
-            database: None,
             mapping: None,
             tables: StatementTables::new(alloc),
             changes: Vec::new(alloc),
@@ -224,37 +204,21 @@ impl LogTransactions {
         Ok(())
     }
 
-    /// The log's database is this, unless it is named.
-    fn name_database(&mut self, alloc: Global, database: &[u8]) -> Result<(), AllocError>
-        requires { may_be_database database.now (state self.old).database ≡ true }
-        ensures { OnOk result (state self.new ≡ record (state self.old) { database = Some database.now }) }
+    /// Maps a table of this name.
+    fn map_named(&mut self, alloc: Global, name: Name)
+        ensures { (database table : List ℕ) → name ≡ joined_name database table
+            → state self.new ≡ behind (state self.old) (Maps database table) }
     {
-        if self.database.is_some() {
-            return Ok(());
-        }
-        let mut copy = Vec::new(alloc);
-        copy.extend_from_slice(database)?;
-        self.database = Some(copy);
-        Ok(())
-    }
-
-    /// Maps a table whose name is one of ours.
-    fn map_named(&mut self, alloc: Global, database: &[u8], table: Name) -> Result<(), AllocError>
-        requires { may_be_database database.now (state self.old).database ≡ true }
-        ensures { OnOk result (state self.new ≡ behind (state self.old) (Maps database.now table)) }
-    {
-        self.name_database(alloc, database)?;
-        self.mapping = Some(table);
+        self.mapping = Some(name);
         if self.is_over {
             self.tables = StatementTables::new(alloc);
         }
         self.is_over = false;
-        Ok(())
     }
 
-    /// Takes a table that is mapped, by its database and its name. The number of its columns comes next. (`Transaction`: none has begun;
-    /// `Table`: a second database, or a name that is none of ours.)
-    #[tactic(auto, using(crate::proofs::NameLaws::named_word))]
+    /// Takes a table that is mapped, by its database's name and its own. The number of its columns comes next. (`Transaction`: none has
+    /// begun; `Table`: the two are no name, or a longer one than may be.)
+    #[tactic(auto, using(crate::proofs::NameLaws::named_table))]
     pub fn map_table(
         &mut self,
         alloc: Global,
@@ -266,13 +230,10 @@ impl LogTransactions {
         if !self.is_begun() {
             return Err(EventFault::Refused(EventRefusal::Transaction));
         }
-        if !may_be_database(database, &self.database) {
-            return Err(EventFault::Refused(EventRefusal::Table));
-        }
-        let Some(name) = table_name(alloc, table)? else {
+        let Some(name) = table_name(alloc, database, table)? else {
             return Err(EventFault::Refused(EventRefusal::Table));
         };
-        self.map_named(alloc, database, name)?;
+        self.map_named(alloc, name);
         Ok(())
     }
 
@@ -312,11 +273,11 @@ impl LogTransactions {
         Ok(())
     }
 
-    /// Whether the statement maps a table of this name, of this database.
-    pub fn has_table(&self, database: &[u8], table: &Name) -> bool
-        ensures { result ≡ has_table (state self.now) database.now table.now }
+    /// Whether the statement maps a table of this name.
+    pub fn has_table(&self, name: &Name) -> bool
+        ensures { result ≡ has_table (state self.now) name.now }
     {
-        is_database(database, &self.database) && self.tables.find(table).is_some()
+        self.tables.find(name).is_some()
     }
 
     /// The name of the table whose columns come.
@@ -387,9 +348,9 @@ impl LogTransactions {
         Ok(())
     }
 
-    /// Takes a flush: a transaction without changes. (`Transaction`: none has its GTID, or it has begun.)
-    pub fn flush(&mut self, alloc: Global) -> Result<(), EventFault>
-        ensures { TakesOrMemory result (state self.old) Flushes (state self.new) }
+    /// Takes a statement of maintenance: a transaction without changes. (`Transaction`: none has its GTID, or it has begun.)
+    pub fn maintain(&mut self, alloc: Global) -> Result<(), EventFault>
+        ensures { TakesOrMemory result (state self.old) Maintains (state self.new) }
     {
         if self.stage != TransactionStage::Named {
             return Err(EventFault::Refused(EventRefusal::Transaction));
@@ -413,6 +374,16 @@ impl LogTransactions {
         ensures { result ≡ is_idle (state self.now).stage }
     {
         self.stage == TransactionStage::Idle
+    }
+
+    /// The GTID of a transaction of which nothing else has come, if there is one.
+    pub fn named(&self) -> Option<Gtid>
+        ensures { result ≡ named (state self.now) }
+    {
+        match self.stage {
+            TransactionStage::Named => Some(self.gtid),
+            _ => None,
+        }
     }
 
     /// The set that was executed before, by the files, the entries in order, and the columns that are compared otherwise than by their bytes.

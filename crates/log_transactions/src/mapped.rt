@@ -1,7 +1,8 @@
-//! Tables that a statement maps.
-ghost use Rattle.std.specs.Prelude.{◌≡◌, ◌∷◌, ◌++◌, [], IfOk, OnOk, OnErr, option_map};
-ghost use Rattle.log_transactions.specs.Tables.{find_table, table_name};
+//! Tables that a statement maps, and their names.
+ghost use Rattle.std.specs.Prelude.{◌≡◌, ◌<◌, ◌∷◌, ◌++◌, [], IfOk, OnOk, OnErr, option_map};
+ghost use Rattle.log_transactions.specs.Tables.{hex_digit, escaped_byte, escaped, joined_name, find_table, table_name};
 ghost use Rattle.log_transactions.specs.Places.{ArePlaces};
+ghost use Rattle.rows.specs.Names.{is_plain};
 
 use rows::{Name, NameFault};
 use std::alloc::{AllocError, Global};
@@ -93,14 +94,73 @@ impl StatementTables {
     }
 }
 
-/// The name of a table that a word is.
-pub fn table_name(alloc: Global, word: &[u8]) -> Result<Option<Name>, AllocError>
-    ensures { IfOk result (λ found. found ≡ table_name word.now) }
+/// Whether a byte of a name stands for itself.
+fn is_plain(byte: u8) -> bool
+    ensures { result ≡ is_plain byte }
 {
-    let Ok(text) = std::str::from_utf8(word) else {
+    byte.is_ascii_lowercase()
+        || byte.is_ascii_uppercase()
+        || byte.is_ascii_digit()
+        || byte == b'_'
+        || byte == b'$'
+        || byte == b'-'
+}
+
+/// The hexadecimal digit of a number below 16.
+fn hex_digit(number: u8) -> u8
+    requires { number < 16 }
+    ensures { result ≡ hex_digit number }
+{
+    if number < 10 {
+        b'0' + number
+    } else {
+        b'a' - 10 + number
+    }
+}
+
+/// Appends a byte of a name, or its escape.
+fn put_escaped_byte(name: &mut Vec<u8>, byte: u8) -> Result<(), AllocError>
+    ensures { OnOk result (name.new.items ≡ name.old.items ++ escaped_byte byte) }
+{
+    if is_plain(byte) {
+        name.push(byte)?;
+        return Ok(());
+    }
+    let escape = [b'%', hex_digit(byte / 16), hex_digit(byte % 16)];
+    name.extend_from_slice(&escape)
+}
+
+/// Appends a part of a name, with escapes for the bytes that don't stand for themselves.
+fn put_escaped(name: &mut Vec<u8>, part: &[u8]) -> Result<(), AllocError>
+    ensures { OnOk result (name.new.items ≡ name.old.items ++ escaped part.now) }
+{
+    for byte in part {
+        put_escaped_byte(name, *byte)?;
+    }
+    Ok(())
+}
+
+/// The names of a table's database and of the table, with a dot between them.
+fn joined_name(alloc: Global, database: &[u8], table: &[u8]) -> Result<Vec<u8>, AllocError>
+    ensures { IfOk result (λ name. name.items ≡ joined_name database.now table.now) }
+{
+    let mut name = Vec::new(alloc);
+    put_escaped(&mut name, database)?;
+    name.push(b'.')?;
+    put_escaped(&mut name, table)?;
+    Ok(name)
+}
+
+/// The name of a table of a database, by its database's name and its own. There is none where one of the two is empty, and where theirs is
+/// longer than a name may be.
+pub fn table_name(alloc: Global, database: &[u8], table: &[u8]) -> Result<Option<Name>, AllocError>
+    ensures { IfOk result (λ found. found ≡ table_name database.now table.now) }
+{
+    let name = joined_name(alloc, database, table)?;
+    let Ok(text) = String::from_utf8(name) else {
         return Ok(None);
     };
-    match Name::short(String::from_str(alloc, text)?) {
+    match Name::new(text) {
         Ok(name) => Ok(Some(name)),
         Err(NameFault::NotAName) => Ok(None),
         Err(NameFault::Memory) => Err(AllocError),

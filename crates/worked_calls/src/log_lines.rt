@@ -58,6 +58,15 @@ const LINES: &[(&[u8], u8)] = &[
     (b"SAVEPOINT `s2`", b'm'),
     (b"FLUSH RELAY LOGS", b'm'),
     (b"FLUSH TABLES `t1`", b'-'),
+    (b"analyze table s.t1, `mysql`.`user`", b'm'),
+    (b"OPTIMIZE TABLE t", b'm'),
+    (b"ANALYZE", b'-'),
+    (b"ANALYZED TABLE t", b'-'),
+    (
+        b"ANALYZE TABLE t UPDATE HISTOGRAM ON a USING DATA '{}'",
+        b'-',
+    ),
+    (b"CHECK TABLE t", b'-'),
     (b"CREATE DATABASE shop", b'-'),
     (b"XA START X'7831',X'',1", b'-'),
     (b"", b'-'),
@@ -95,7 +104,11 @@ const VALUES: &[(&[u8], &[u8], &str)] = &[
         "4000000000",
     ),
     (b"INT", b"-1 (255)", "-"),
-    (b"BIGINT UNSIGNED", b"-1 (18446744073709551615)", "-"),
+    (
+        b"BIGINT UNSIGNED",
+        b"-1 (18446744073709551615)",
+        "x3138343436373434303733373039353531363135",
+    ),
     (
         b"BIGINT",
         b"-9223372036854775808 (9223372036854775808)",

@@ -282,7 +282,7 @@ fn gaps(rt: HostRuntime) -> Result<(), Fail> {
 
 /// A table whose primary key is the column of text.
 const TEXT_KEY: &[u8] =
-    b"bundle 3\nreplica cccccccc-cccc-cccc-cccc-cccccccccccc\nopening -\ntable two 2 pk 1\ndone\n";
+    b"bundle 3\nreplica cccccccc-cccc-cccc-cccc-cccccccccccc\nopening -\ntable fine.two 2 pk 1\ndone\n";
 
 #[test]
 fn a_key_of_text(rt: HostRuntime) -> Result<(), Fail> {
@@ -291,7 +291,7 @@ fn a_key_of_text(rt: HostRuntime) -> Result<(), Fail> {
     let bundle = decode_bundle(rt.alloc(), TEXT_KEY)?;
     match import_journal(rt.alloc(), bundle.schema(), &opening, false, &text) {
         Err(ImportFault::Key(table, column)) => {
-            assert!(rt; table.as_str() == "two" && column == 1);
+            assert!(rt; table.as_str() == "fine.two" && column == 1);
         }
         _ => panic!(rt; "the key is taken"),
     }
@@ -300,7 +300,7 @@ fn a_key_of_text(rt: HostRuntime) -> Result<(), Fail> {
             assert!(rt; imported.varied.as_slice() == [0].as_slice());
             assert!(rt;
                 imported.text.starts_with(
-                    b"journal 3\nprevious c0df3372-e8db-11f1-a586-02fc00000001:1-33\ntxn c0df3372-e8db-11f1-a586-02fc00000001:40 0 1\nupd two 4294967295 x6c617374 | 9 null\nend\nclose\n"
+                    b"journal 3\nprevious c0df3372-e8db-11f1-a586-02fc00000001:1-33\ntxn c0df3372-e8db-11f1-a586-02fc00000001:40 0 1\nupd fine.two 4294967295 x6c617374 | 9 null\nend\nclose\n"
                 )
             );
         }
@@ -335,7 +335,7 @@ fn a_column_with_its_collation(rt: HostRuntime) -> Result<(), Fail> {
     else {
         panic!(rt; "not one column");
     };
-    assert!(rt; table.as_str() == "two" && *column == 1);
+    assert!(rt; table.as_str() == "fine.two" && *column == 1);
     assert_eq!(rt; *collation, Some(Collation::Utf8mb4_0900AiCi));
     let varied = VariedColumns::of(rt.alloc(), &log.varied)?;
     assert_eq!(rt;
@@ -351,7 +351,7 @@ fn a_column_with_its_collation(rt: HostRuntime) -> Result<(), Fail> {
 
 #[test]
 fn a_column_with_two_collations(rt: HostRuntime) -> Result<(), Fail> {
-    let table = Name::short(String::from_str(rt.alloc(), "two")?)?;
+    let table = Name::new(String::from_str(rt.alloc(), "fine.two")?)?;
     let mut varied = VariedColumns::new(rt.alloc());
     for collation in [
         Some(Collation::Utf8mb4Bin),

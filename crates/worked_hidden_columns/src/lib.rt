@@ -1,5 +1,5 @@
 //! Tests of `derived_columns`: the hidden columns of images, with the weights that a server of MySQL 9.7.4 gives their texts
-//! (`WEIGHT_STRING`), and the first column without a hidden value. There is no code here.
+//! (`WEIGHT_STRING`), with prefixes, numbers and rows by hand, and the first column without a hidden value. There is no code here.
 #![tactic(auto)]
 
 #[cfg(test)]

@@ -35,15 +35,16 @@ returns-in-Ok-keep_channel-clause-fed g c =
       own = own;
       executed = executed;
       varied = c.in-Ok-take_log.read.journal.varied.items;
+      statements = c.in-Ok-take_log.read.statements;
       says = had_executed (terms_of c.args.grants (g.L.Logs.origin c.args.logs.now)) c.args.line.now own _ executed c.cut_executed.ensures c.in-Ok-executed_of.ensures.found;
       middle = bundle_reading c.add_line.new.reader;
       fed = c.in-Ok.ensures.fed;
-      brings = subst (λ (p : BundleProgress). FeedsLog (terms_of c.args.grants (g.L.Logs.origin c.args.logs.now)) c.args.start.now (name_in own) c.args.log.now (bundle_reading c.add_line.new.reader) p c.in-Ok-take_log.read.journal.varied.items) (sym c.keep_channel.ensures.reader)
-          (subst (λ (name : List ℕ). FeedsLog (terms_of c.args.grants (g.L.Logs.origin c.args.logs.now)) c.args.start.now name c.args.log.now (bundle_reading c.add_line.new.reader) (bundle_reading c.take_log.new.reader) c.in-Ok-take_log.read.journal.varied.items) c.name_in.ensures c.in-Ok-take_log.ensures.fed);
+      brings = subst (λ (p : BundleProgress). FeedsLog (terms_of c.args.grants (g.L.Logs.origin c.args.logs.now)) c.args.start.now (name_in own) c.args.log.now (bundle_reading c.add_line.new.reader) p c.in-Ok-take_log.read.journal.varied.items c.in-Ok-take_log.read.statements) (sym c.keep_channel.ensures.reader)
+          (subst (λ (name : List ℕ). FeedsLog (terms_of c.args.grants (g.L.Logs.origin c.args.logs.now)) c.args.start.now name c.args.log.now (bundle_reading c.add_line.new.reader) (bundle_reading c.take_log.new.reader) c.in-Ok-take_log.read.journal.varied.items c.in-Ok-take_log.read.statements) c.name_in.ensures c.in-Ok-take_log.ensures.fed);
       said = c.in-Ok-keep_channel.ensures.said;
       assumed =
           c.in-Ok-keep_channel.ensures.assumed
-          ∙ ap (λ (unchecked : Bool). c.args.progress.now.assumed.items ++ assumed_of (name_in own) c.args.start.now.opened executed unchecked) (c.in-Ok-take_log.ensures.unchecked ∙ ap (g.L.Logs.origin c.args.logs.now).is_unchecked c.name_in.ensures);
+          ∙ ap (λ (unchecked : Bool). c.args.progress.now.assumed.items ++ assumed_of (name_in own) c.args.start.now.opened executed unchecked c.in-Ok-take_log.read.statements) (c.in-Ok-take_log.ensures.unchecked ∙ ap (g.L.Logs.origin c.args.logs.now).is_unchecked c.name_in.ensures);
       noted = c.in-Ok-keep_channel.ensures.noted;
       same_head = c.keep_channel.ensures.head;
     }

@@ -3,15 +3,14 @@ use Rattle.std.specs.FinSet as set
 use Rattle.gtid_text.specs.declared.Span.{Span}
 use Rattle.gtid_set.specs.Sets.{Gtids}
 use Rattle.gtid_set.specs.Spans.{set_of}
-use Rattle.gtid_set.proofs.LawLemmas.{union_itself}
 use Rattle.std.proofs.lemmas.List.{at_drop_more, at_drop_all}
-use Rattle.log_transactions.proofs.JoinLaws.{next_joined, next_kept, part_joined, all_joined}
+use Rattle.log_transactions.proofs.JoinLaws.{itself_kept, next_joined, next_kept, part_joined, all_joined}
 use Rattle.log_transactions.proofs.joined.add_all.Goals as goal
 
 pub loop-span-init : goal.loop-span-init
 loop-span-init c = record {
   so_far = refl;
-  kept = union_itself c.args.whole.now;
+  kept = itself_kept c.args.whole.now;
 }
 
 pub returns-in_default-clause-part : goal.returns-in_default-clause-part

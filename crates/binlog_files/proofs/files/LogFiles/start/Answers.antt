@@ -4,4 +4,4 @@ use Rattle.binlog_files.proofs.Wholes.{at_start}
 use Rattle.binlog_files.proofs.files.LogFiles.start.Goals as goal
 
 pub returns : goal.returns
-returns c = at_start c.args.opening c.new.result (start c.args.opening) (files_state c.start.result) c.new.ensures c.start.ensures
+returns c given = at_start given c.new.result (start c.args.opening) (files_state c.start.result) c.new.ensures c.start.ensures
