@@ -42,7 +42,7 @@ sentence() {
     purged) echo "$them: the transactions $what are purged, and the server of --opening hasn't executed them. Take one that stands later" ;;
     rows-of) echo "$them: the log has rows of tables that were left out, or that aren't there any more ($n): $what. Take them in, or begin at an opening after these rows" ;;
     damaged) echo "$them: the bytes of its log aren't those that a server writes, in the file, at the offset and for the reason $what. Collect again, and if it stays, begin at an opening after it" ;;
-    packed) echo "$them: the log has transactions whose events are packed into one (binlog_transaction_compression), in these files from these offsets on: $what. Begin at an opening after them, or go the way by mysqlbinlog's text ($docs/RECIPES.md, 'A bundle from the text of logs')" ;;
+    packed) echo "$them: the log has transactions whose events are packed into one (binlog_transaction_compression), in these files from these offsets on: $what. Begin at an opening after them, or go the way by mysqlbinlog's text ($docs/GUIDE.md, 'A bundle from the text of logs')" ;;
     difference) echo "$them differ in the table $what. Make it alike on both, $leave_out" ;;
     engine) echo "$them: tables that aren't of InnoDB ($n): $what. Give each ENGINE=InnoDB, $leave_out" ;;
     collation) echo "$them: columns of keys of collations that aren't taken ($n): $what. Give each one of the collations that gtidrep-collect --help lists, $leave_out, or give --bytes: then two values that a server calls equal may be missed" ;;
@@ -52,6 +52,8 @@ sentence() {
     expression-key) echo "$them: unique keys that hold an expression ($n): $what. Make each a key of a generated column, or leave its table out by --exclude-table" ;;
     no-primary-key) echo "$them: tables without a primary key or a unique key without NULLs ($n): $what. Give each one, $leave_out, or go without --opening: then a whole row is the key, and rows aren't known" ;;
     foreign-key) echo "$them: foreign keys, which aren't looked at ($n): $what. Give --without-foreign-keys: then the verdict doesn't see what servers do by them. Or leave their tables out by --exclude-table" ;;
+    session-column) echo "$them: generated columns whose values go by the session, which a replica computes anew by its own time zone, div_precision_increment or lc_time_names ($n): $what. Make each a plain column, or one that reads no TIMESTAMP, doesn't divide, and names no days or months, $leave_out" ;;
+    session-check) echo "$them: CHECKs whose values go by the session, which a replica computes anew by its own time zone, div_precision_increment or lc_time_names ($n): $what. Drop each, $leave_out" ;;
     cascade) echo "$them: foreign keys whose changes a server before 9.7 doesn't log ($n): $what. Such logs lack changes: take servers of 9.7, or foreign keys without cascades" ;;
     *) echo "$them: $1 ($n): $what" ;;
   esac

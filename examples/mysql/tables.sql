@@ -1,7 +1,8 @@
 -- Prints the head lines of the tables of a server: a `table` line for each table, with a line `collate <table> <column> <how>` behind it for each column
 -- that a key compares otherwise than by its bytes. Each of these has a hidden column behind the others, in their order, which the keys name in its place.
 -- Then an `fk` line for each foreign key that refers to a whole primary or unique key, in that key's order; and a line `unsupported <what> <where>` for each
--- other foreign key, and for each key or table that a bundle can't hold: `import` refuses a head that has one of these.
+-- other foreign key, for each key or table that a bundle can't hold, and for each generated column or check that a replica may compute otherwise: `import`
+-- refuses a head that has one of these.
 --   (echo "SET @dbs='shop,bank';"; cat tables.sql) | mysql -N -r
 -- @dbs is the databases, with commas between them (@db, if it is one); all but the server's own where it is null.
 -- @excluded is the tables that are left out, as `shop.carts,shop.visits`; none where it is null.
@@ -17,7 +18,9 @@ SET SESSION group_concat_max_len = 1000000;
 SET @words = (WITH RECURSIVE names AS (
     SELECT TABLE_SCHEMA COLLATE utf8mb3_bin AS name FROM information_schema.TABLES UNION SELECT TABLE_NAME COLLATE utf8mb3_bin FROM information_schema.TABLES
     UNION SELECT INDEX_NAME COLLATE utf8mb3_bin FROM information_schema.STATISTICS
-    UNION SELECT CONSTRAINT_NAME COLLATE utf8mb3_bin FROM information_schema.REFERENTIAL_CONSTRAINTS),
+    UNION SELECT CONSTRAINT_NAME COLLATE utf8mb3_bin FROM information_schema.REFERENTIAL_CONSTRAINTS
+    UNION SELECT CONSTRAINT_NAME COLLATE utf8mb3_bin FROM information_schema.CHECK_CONSTRAINTS
+    UNION SELECT COLUMN_NAME COLLATE utf8mb3_bin FROM information_schema.COLUMNS WHERE GENERATION_EXPRESSION <> ''),
   spelled (name, done, word) AS (
     SELECT name, 0, CAST('' AS CHAR(600)) FROM names WHERE name NOT REGEXP '^[A-Za-z0-9_$-]*$'
     UNION ALL
@@ -113,6 +116,28 @@ foreign_keys AS (
   LEFT JOIN words w ON w.name = f.CONSTRAINT_NAME
   JOIN tables_here child ON child.TABLE_SCHEMA = f.TABLE_SCHEMA AND child.TABLE_NAME = f.TABLE_NAME
   LEFT JOIN tables_here parent ON parent.TABLE_SCHEMA = f.parent_schema AND parent.TABLE_NAME = f.parent_name)
+,
+
+-- ---- what a replica may compute otherwise
+
+-- Generated columns and checks, which a replica computes anew, whose values go by the session: by its time zone where they read a TIMESTAMP, convert a time
+-- zone or make a DATETIME (of a text with an offset), by its div_precision_increment where they divide, and by its lc_time_names where they name days or
+-- months. A log doesn't always tell these.
+expressions AS (
+  SELECT of_table, COLUMN_NAME AS name, GENERATION_EXPRESSION AS expression, 'session-column' AS what FROM information_schema.COLUMNS JOIN tables_here USING (TABLE_SCHEMA, TABLE_NAME)
+  UNION ALL
+  -- (DISTINCT: without it the two are joined row by row, which takes seconds for some hundreds)
+  SELECT of_table, CONSTRAINT_NAME, CHECK_CLAUSE, 'session-check' FROM (SELECT DISTINCT * FROM information_schema.CHECK_CONSTRAINTS) AS checks
+  JOIN (SELECT DISTINCT * FROM information_schema.TABLE_CONSTRAINTS WHERE CONSTRAINT_TYPE = 'CHECK') AS of_tables USING (CONSTRAINT_SCHEMA, CONSTRAINT_NAME)
+  JOIN tables_here USING (TABLE_SCHEMA, TABLE_NAME)),
+-- each TIMESTAMP as an expression names it there: with backslashes before these and before single quotes, and what isn't ASCII as the latin1 of its bytes
+timestamps AS (
+  SELECT of_table, CONCAT('`', REPLACE(REPLACE(REPLACE(COLUMN_NAME, '`', '``'), '\\', '\\\\'), '\'', '\\\''), '`') AS it
+  FROM information_schema.COLUMNS JOIN tables_here USING (TABLE_SCHEMA, TABLE_NAME) WHERE DATA_TYPE = 'timestamp'),
+by_session AS (
+  SELECT DISTINCT of_table, CONVERT(COALESCE(word, e.name) USING utf8mb4) AS name, what FROM expressions e LEFT JOIN timestamps USING (of_table) LEFT JOIN words w ON w.name = e.name
+  WHERE LOCATE(it, expression) > 0 OR LOCATE(CONVERT(CAST(it AS BINARY) USING latin1), expression) > 0 OR LOCATE(' / ', expression) > 0
+    OR expression REGEXP '(from_unixtime|convert_tz|dayname|monthname)[(]|(date_format|str_to_date)[(].*%[MWab]| as datetime[()]')
 
 -- ---- the lines
 
@@ -128,6 +153,8 @@ SELECT line FROM (
   UNION ALL
   SELECT 4, of_table, of_key, CONCAT('unsupported ', unsupported, ' ', of_table, '.', COALESCE(word, of_key)) FROM all_keys LEFT JOIN words ON name = of_key
   WHERE unsupported IS NOT NULL
+  UNION ALL
+  SELECT 4, of_table, name, CONCAT('unsupported ', what, ' ', of_table, '.', name) FROM by_session
   UNION ALL
   SELECT 5, of_table, '', CONCAT('unsupported no-primary-key ', of_table) FROM tables_here WHERE of_table NOT IN (SELECT of_table FROM held_tables)) AS head
 ORDER BY part, CAST(of_table AS BINARY), place;
