@@ -1,6 +1,8 @@
 mod Accepting
 pub mod Feeding
 pub mod Cutting
+pub mod HeadLines
+pub mod Weaving
 pub mod Bringing
 pub mod Coming
 pub mod OwnLines
@@ -10,3 +12,4 @@ pub mod Lacking
 pub mod Counting
 pub mod Weighing
 pub mod Fronts
+pub mod Keeping

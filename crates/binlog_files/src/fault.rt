@@ -37,6 +37,10 @@ pub enum FileRefusal {
     Value,
     /// A kind of event that is unknown, and may not be passed over.
     Kind,
+    /// A statement uses a table with a foreign key, though there is said to be none.
+    References,
+    /// A rows event of a server that changes rows by foreign keys without logging it, and there is such a key.
+    Cascade,
 }
 
 fn event_word(refusal: EventRefusal) -> &'static str
@@ -72,6 +76,8 @@ impl FileRefusal {
             FileRefusal::Metadata => "metadata",
             FileRefusal::Value => "value",
             FileRefusal::Kind => "kind",
+            FileRefusal::References => "references",
+            FileRefusal::Cascade => "cascade",
         }
     }
 }

@@ -19,3 +19,4 @@ pub mod Exact
 pub mod BundleRead
 pub mod EventLines
 pub mod Tallying
+pub mod JsonFinding

@@ -21,3 +21,4 @@ pub mod Tallies
 pub mod Explaining
 pub mod Telling
 pub mod Exact
+pub mod JsonAudits

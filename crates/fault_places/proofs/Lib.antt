@@ -8,3 +8,6 @@ mod LineLeft
 mod Within
 mod Worded
 mod Days
+mod TimesAscii
+mod JsonFound
+mod JsonPlain

@@ -38,28 +38,52 @@ fn read_log(rt: &HostRuntime, progress: &mut Progress<'_>, name: &str) -> Result
     }
 }
 
-/// A channel with its first file.
-fn channel_of(alloc: Global, channel: &str, file: Vec<u8>) -> Result<ChannelFiles, AllocError> {
+/// The name of a file in its folder.
+fn base_name(file: &str) -> &str {
+    match file.rsplit_once('/') {
+        Some((_, name)) => name,
+        None => file,
+    }
+}
+
+/// A channel without files.
+fn channel_of(alloc: Global, channel: &str) -> Result<ChannelFiles, AllocError> {
     let name = Vec::from_slice(alloc, channel.as_bytes())?;
-    let mut files = Vec::new(alloc);
-    files.push(file)?;
-    Ok(ChannelFiles { name, files })
+    Ok(ChannelFiles {
+        name,
+        files: Vec::new(alloc),
+        names: Vec::new(alloc),
+    })
+}
+
+/// Adds a file of this name to those of a channel.
+fn push_file(
+    alloc: Global,
+    log: &mut ChannelFiles,
+    name: &str,
+    file: Vec<u8>,
+) -> Result<(), AllocError> {
+    log.names
+        .push(Vec::from_slice(alloc, base_name(name).as_bytes())?)?;
+    log.files.push(file)?;
+    Ok(())
 }
 
 /// Adds a file to those of its channel.
 fn add_file(
     alloc: Global,
     logs: &mut Vec<ChannelFiles>,
-    channel: &str,
+    word: &LogWord<'_>,
     file: Vec<u8>,
 ) -> Result<(), AllocError> {
     for log in logs.iter_mut() {
-        if log.name.as_slice() == channel.as_bytes() {
-            log.files.push(file)?;
-            return Ok(());
+        if log.name.as_slice() == word.channel.as_bytes() {
+            return push_file(alloc, log, word.file, file);
         }
     }
-    logs.push(channel_of(alloc, channel, file)?)?;
+    let mut log = channel_of(alloc, word.channel)?;
+    push_file(alloc, &mut log, word.file, file)?;
+    logs.push(log)?;
     Ok(())
 }
 
@@ -75,7 +99,7 @@ pub(crate) fn read_logs(
             Ok(file) => file,
             Err(ending) => return Err(ending),
         };
-        let Ok(()) = add_file(rt.alloc(), &mut logs, word.channel, file) else {
+        let Ok(()) = add_file(rt.alloc(), &mut logs, word, file) else {
             return Err(Ending::Ran(Err(RunFault::Memory)));
         };
     }
