@@ -3,13 +3,11 @@
 
 usage: binlogs.py numbers COUNT SEED               SQL: COUNT statements that change the rows of v.numbers
        binlogs.py rows < WHAT_SELECT_PRINTS        the `row` lines of v.numbers
-       binlogs.py places LOGS                      the GTID, offset, time and server of each transaction, by mysqlbinlog's text
        binlogs.py kind FILE KIND FLAGS TO          FILE with the first event of this kind made one of kind TO with these flags, to standard output
        binlogs.py damage PROGRAM HEAD FILE..       each bit, cut and event of each file of the channel east: counts, and status 1 where one isn't seen
 """
 import os
 import random
-import re
 import struct
 import subprocess
 import sys
@@ -120,8 +118,7 @@ def damages(data):
 
 def imported(program, head, files):
     done = subprocess.run([program, "import", "--binlogs", *(f"east={it}" for it in files)], input=head, capture_output=True, timeout=600, check=False)
-    # (a place names the file, which has another name here)
-    return b"".join(it for it in done.stdout.splitlines(True) if not it.startswith(b"place ")), done.returncode, done.stderr.decode()
+    return done.stdout, done.returncode, done.stderr.decode()
 
 
 def word_of(said):
@@ -164,28 +161,11 @@ def damage(program, head_file, files):
     sys.exit(1 if wrong else 0)
 
 
-# ---- places
-
-def places(logs):
-    offset = server = time = ""
-    with open(logs, encoding="utf-8", errors="replace") as lines:
-        for line in lines:
-            at, head = re.match(r"# at (\d+)$", line), re.match(r"#\d{6} .*server id (\d+) [^\t]*\tGTID\t.*original_committed_timestamp=(\d+)", line)
-            named = re.match(r"SET @@SESSION.GTID_NEXT= '([^']*:\d+)'", line)
-            offset = at[1] if at and not server else offset
-            server, time = (head[1], head[2]) if head else (server, time)
-            if named:
-                print(named[1], offset, time, server)
-                server = ""
-
-
 what, *words = sys.argv[1:] or ["--help"]
 if what == "numbers":
     numbers(int(words[0]), int(words[1]))
 elif what == "rows":
     rows()
-elif what == "places":
-    places(words[0])
 elif what == "kind":
     with_kind(words[0], int(words[1]), int(words[2]), int(words[3]))
 elif what == "damage":

@@ -11,7 +11,6 @@ from .gtids import Gtid, GtidSet, gtid_in, set_in
 from .rows import Change, Row, Value
 
 HEAD = re.compile(r"#\d[^\t]*\t(.*)")
-CHECKED = re.compile(r"#\d[^\t]* CRC32 0x[0-9a-f]{8} \t.*")
 ROWS = re.compile(r"(?:Write|Update|Delete)_rows: table id \d+ ?(flags: STMT_END_F)?")
 MAPPED = re.compile(r"Table_map: `([^`]*)`\.`([^`]*)` mapped to number \d+")
 COLUMN = re.compile(r"# (?:Columns\(|        )`\w+` (.*)[,)]")
@@ -189,18 +188,14 @@ class Log:
         return Journal(self.previous, self.entries)
 
 
-def read_log(opening: GtidSet, first: int, lines: list[str], cascades: bool) -> Journal:
-    """The journal of a log whose first line has this number, where the server itself changes rows by foreign keys, or doesn't."""
+def read_log(opening: GtidSet, first: int, lines: list[str]) -> Journal:
+    """The journal of a log whose first line has this number."""
     log = Log(opening)
     for number, text in enumerate(lines, first):
         if text not in LAST:
             log.take_line(number, text)
     if LAST[1] not in lines:
         refuse(first + len(lines), "unfinished")
-    for number, text in enumerate(lines, first):
-        head = HEAD.fullmatch(text)
-        if cascades and head and ROWS.match(head[1]) and not text.endswith(" USE_SQL_FOREIGN_KEY_F"):
-            refuse(number, "cascade")
     return log.journal()
 
 
@@ -230,6 +225,7 @@ class Imported:
         what = text.split(" ")[1]
         if what != "foreign-key" or "--without-foreign-keys" not in self.granted:
             raise Refused(f"refused import {text}")
+        self.assumed = ["references"]
 
     def own(self, first: int) -> Iterator[int]:
         """The places of the bundle's own lines, from this one on."""
@@ -249,11 +245,8 @@ class Imported:
             executed = set_in(words[1]) if words else None
             if not words and "--executed-unknown" not in self.granted:
                 refuse(at + 1, "executed")
-            cascades = any(it.endswith(" cascade") for it in bundle.references)
-            channel = Channel(name, preserve, read_log(bundle.opening, at + 2, self.lines[at + 1 : behind], cascades))
+            channel = Channel(name, preserve, read_log(bundle.opening, at + 2, self.lines[at + 1 : behind]))
             bundle.channels.append(channel)
-            if any(HEAD.fullmatch(it) and not CHECKED.fullmatch(it) for it in self.lines[at + 1 : behind]):
-                self.assumed.append(f"checksums {name}")
             if executed is None:
                 self.assumed.append(f"executed {name}")
                 continue
@@ -273,8 +266,7 @@ class Imported:
         """What is assumed, before the last line, which has to come, and behind what the head itself has assumed."""
         if not places or self.lines[places[-1]] != "done":
             return
-        granted = ["references"] * ("--without-foreign-keys" in self.granted) + ["rows"] * ("--no-rows" in self.granted)
-        last, found = bundle.assumptions[-1:], sorted(self.assumed + granted, key=assumption_order)
+        last, found = bundle.assumptions[-1:], sorted(self.assumed + ["rows"] * ("--no-rows" in self.granted), key=assumption_order)
         bundle.assumptions += found
         if last and found and not assumption_order(last[0]) < assumption_order(found[0]):
             raise Refused(f"refused E14 line {places[-1] + 1} body")

@@ -2,7 +2,6 @@
 docs/FORMATS.md and the kept logs of real servers."""
 from __future__ import annotations
 
-import re
 from collections.abc import Callable, Iterable
 from random import Random
 
@@ -236,22 +235,6 @@ class BundleOfLogs:
             while file[at + 1].startswith("### "):
                 del file[at + 1]
 
-    def unchecked(self) -> None:
-        """An event has no checksum."""
-        file = self.chance.choice(self.files[self.some()])
-        places = [at for at, line in enumerate(file) if " CRC32 0x" in line]
-        if places:
-            at = self.chance.choice(places)
-            file[at] = re.sub(r"CRC32 0x[0-9a-f]{8} \t", "\t", file[at])
-
-    def unlogged(self) -> None:
-        """A rows event is of a server that doesn't log cascades."""
-        file = self.chance.choice(self.files[self.some()])
-        places = [at for at, line in enumerate(file) if line.endswith(" USE_SQL_FOREIGN_KEY_F")]
-        if places:
-            at = self.chance.choice(places)
-            file[at] = file[at].removesuffix(" USE_SQL_FOREIGN_KEY_F")
-
     def older(self) -> None:
         """The head is of a version that isn't taken."""
         self.version = self.chance.choice("124")
@@ -269,7 +252,7 @@ class BundleOfLogs:
 DAMAGE: list[Callable[[BundleOfLogs], None]] = [
     BundleOfLogs.nothing, BundleOfLogs.without_rows, BundleOfLogs.rows_lost, BundleOfLogs.file_lost, BundleOfLogs.end_lost, BundleOfLogs.more_executed,
     BundleOfLogs.nobody_asked, BundleOfLogs.not_opened, BundleOfLogs.unsupported, BundleOfLogs.other_server, BundleOfLogs.statement_open,
-    BundleOfLogs.older, BundleOfLogs.hidden, BundleOfLogs.unchecked, BundleOfLogs.unlogged, BundleOfLogs.hidden,
+    BundleOfLogs.older, BundleOfLogs.hidden,
 ]
 
 

@@ -29,10 +29,10 @@ use Rattle.log_transactions.specs.declared.varied.Varied.{Varied}
 -- ---- a log
 
 -- the channel has no log
-pub not_had : (terms : Terms) (start : BundleValue) (name log before : List ℕ) (fault : SourceFault) (found : ChannelFault) → terms.origin.refuses name log start fault → IsNotHad name fault found → CantFeedLog terms start name log before found
-not_had terms start name log before (sources.Text fault) (channels.Log (imports.Text other)) none h = inl (subst (λ (f : ReadFault). terms.origin.refuses name log start (sources.Text f)) (sym h) none)
-not_had terms start name log before (sources.Logless why) (channels.Logless other) none h = subst (λ (w : Logless). terms.origin.refuses name log start (sources.Logless w)) (sym h) none
-not_had terms start name log before (sources.File fault) (channels.Binlog channel other) none h = (h.0, subst (λ (f : FiledFault). terms.origin.refuses name log start (sources.File f)) (sym h.1) none)
+pub not_had : (terms : Terms) (start : BundleValue) (name log before : List ℕ) (fault : SourceFault) (found : ChannelFault) → terms.origin.refuses name log start.opened fault → IsNotHad name fault found → CantFeedLog terms start name log before found
+not_had terms start name log before (sources.Text fault) (channels.Log (imports.Text other)) none h = inl (subst (λ (f : ReadFault). terms.origin.refuses name log start.opened (sources.Text f)) (sym h) none)
+not_had terms start name log before (sources.Logless why) (channels.Logless other) none h = subst (λ (w : Logless). terms.origin.refuses name log start.opened (sources.Logless w)) (sym h) none
+not_had terms start name log before (sources.File fault) (channels.Binlog channel other) none h = (h.0, subst (λ (f : FiledFault). terms.origin.refuses name log start.opened (sources.File f)) (sym h.1) none)
 not_had terms start name log before (sources.File fault) (channels.Own other) none h = h
 not_had terms start name log before (sources.Text fault) (channels.Log (imports.Key table column)) none h = absurd h
 not_had terms start name log before (sources.Text fault) (channels.Log (imports.Log other)) none h = absurd h
@@ -55,13 +55,13 @@ not_had terms start name log before (sources.File fault) (channels.Journal other
 not_had terms start name log before (sources.File fault) (channels.Logless other) none h = absurd h
 
 -- its log is not written as a journal
-pub not_written : (terms : Terms) (start : BundleValue) (name log : List ℕ) (fault : ImportFault) (previous : Gtids) (entries : List Entry) (varied : List Varied) → terms.origin.is_log name log start previous entries varied
+pub not_written : (terms : Terms) (start : BundleValue) (name log : List ℕ) (fault : ImportFault) (previous : Gtids) (entries : List Entry) (varied : List Varied) → terms.origin.is_log name log start.opened previous entries varied
     → IsNotWritten start.start.schema terms.grants.bytes previous entries varied fault → BringsNone terms start name log fault
 not_written terms start name log (imports.Text fault) previous entries varied is h = inr h
 not_written terms start name log (imports.Key table column) previous entries varied is h = record { previous = previous; entries = entries; varied = varied; log = is; refused = h }
 not_written terms start name log (imports.Log fault) previous entries varied is h = record { previous = previous; entries = entries; varied = varied; log = is; refused = h }
 
-pub cant_bring : (terms : Terms) (start : BundleValue) (name log before : List ℕ) (fault : JournalFault) (found : ChannelFault) → CantJoin terms start name log before fault → IsJournalFault terms.origin.said.ignored start.start.schema log fault found → CantFeedLog terms start name log before found
+pub cant_bring : (terms : Terms) (start : BundleValue) (name log before : List ℕ) (fault : JournalFault) (found : ChannelFault) → CantJoin terms start name log before fault → IsJournalFault start.start.schema log fault found → CantFeedLog terms start name log before found
 cant_bring terms start name log before fault (channels.Own other) cant h = h
 cant_bring terms start name log before fault channels.Unknown cant h = absurd h
 cant_bring terms start name log before fault (channels.Log other) cant h = absurd h
@@ -69,7 +69,7 @@ cant_bring terms start name log before fault (channels.Logless why) cant h = abs
 cant_bring terms start name log before fault (channels.Binlog channel other) cant h = absurd h
 cant_bring terms start name log before fault (channels.Table at) cant h = (fault, h.0, cant, h.1)
 cant_bring terms start name log before fault (channels.Journal other) cant h =
-    subst (λ (f : JournalFault). CantJoin terms start name log before f × (IsOfLine f → HasNoOther terms.origin.said.ignored start.start.schema log)) (sym h.0) (cant, h.1)
+    subst (λ (f : JournalFault). CantJoin terms start name log before f × (IsOfLine f → HasNoOther start.start.schema log)) (sym h.0) (cant, h.1)
 
 -- ---- a channel
 

@@ -18,7 +18,7 @@ use Rattle.txn_journal.specs.declared.lines.Version.TheVariants.{Three}
 use Rattle.binlog_entries.proofs.TransactionLaws.{flat_map_more}
 use Rattle.binlog_bundle.specs.Lines.{with_line_feed, is_channel, lines_in, BeginsOwn, IsCut}
 use Rattle.binlog_bundle.specs.Notes.{name_in, notes_for}
-use Rattle.binlog_bundle.specs.Assumed.{ignored_lines, IsSaidBefore}
+use Rattle.binlog_bundle.specs.Assumed.{IsSaidBefore}
 use Rattle.binlog_bundle.specs.Heads.{IsPlainHead}
 use Rattle.binlog_bundle.specs.Executed.{IsCutLine, IsNoSet, AreWithin, HasLack, HasFullLack, IsFullAt}
 use Rattle.binlog_bundle.specs.Bundles.{done_line, ImportedLog, log_text, journal_text, IsStart, IsImported, Corresponds, said, all_assumed, assumed_for, DescribesBundle, ImportsBundle, BeginsLast, Nowhere, Last}
@@ -64,8 +64,8 @@ said_more cs c xs ys e f = f ∙ ap (λ (zs : List (Option Gtids)). zs ++ c.exec
 
 -- ---- what has come
 
-pub come_head : (terms : Terms) (start : BundleValue) (head plain text left : List ℕ) (p : ImportProgress) → HasHead terms text head plain left → IsStart plain start → HasRead p plain
-    → p.executed.items ≡ [] → p.assumed.items ≡ ignored_lines terms.origin.said.ignored → p.notes.items ≡ [] → HasCome terms start text left p
+pub come_head : (terms : Terms) (start : BundleValue) (head plain text left : List ℕ) (p : ImportProgress) → HasHead terms text head plain p.passed_over left → IsStart plain start → HasRead p plain
+    → p.executed.items ≡ [] → p.assumed.items ≡ [] → p.notes.items ≡ [] → HasCome terms start text left p
 come_head terms start head plain text left p h has fed none nothing silent = record {
   head = head;
   plain = plain;
@@ -80,7 +80,7 @@ come_head terms start head plain text left p h has fed none nothing silent = rec
   begins = h.cut.begins;
   fed = fed;
   says = none;
-  assumed = nothing ∙ sym (append-nil (ignored_lines terms.origin.said.ignored));
+  assumed = nothing;
   noted = silent;
 }
 
@@ -90,14 +90,14 @@ channel_parts line after log behind cut = ap (λ (xs : List ℕ). with_line_feed
 pub come_more : (terms : Terms) (start : BundleValue) (text left line after log behind : List ℕ) (old new : ImportProgress) → is_channel line ≡ true
     → HasCome terms start text left old → left ≡ with_line_feed line ++ after → IsCut after log behind → FeedsChannel terms start line log old new → HasCome terms start text behind new
 come_more terms start text left line after log behind old new channel come begins cut f =
-    let assumes = assumed_for terms start f.own log f.executed f.statements in
+    let assumes = assumed_for terms start f.own f.executed f.statements in
     let note = notes_for start f.own f.varied in
     let c : ImportedLog = record { line = line; own = f.own; executed = f.executed; log = log; journal = f.brings.journal; varied = f.varied; statements = f.statements; assumed = assumes; notes = note } in
     record {
       head = come.head;
       plain = come.plain;
       alone = come.alone;
-      plain_head = come.plain_head;
+      plain_head = subst (IsPlainHead terms.grants terms.origin.columns come.head come.plain) (sym f.same_head) come.plain_head;
       has = come.has;
       channels = come.channels ++ c ∷ [];
       front = come.front ++ log_text c;
@@ -110,14 +110,12 @@ come_more terms start text left line after log behind old new channel come begin
       begins = cut.begins;
       fed = subst (HasRead new) (append_assoc come.written (with_line_feed f.own) f.brings.journal) (f.brings.fed (come.written ++ with_line_feed f.own) (f.fed come.written come.fed));
       says = said_more come.channels c old.executed.items new.executed.items come.says f.said;
-      assumed = f.assumed ∙ ap (λ (xs : List AssumedLine). xs ++ assumes) come.assumed
-          ∙ append_assoc (ignored_lines terms.origin.said.ignored) (flat_map (λ (c : ImportedLog). c.assumed) come.channels) assumes
-          ∙ ap (λ (xs : List AssumedLine). ignored_lines terms.origin.said.ignored ++ xs) (sym (flat_map_more (λ (c : ImportedLog). c.assumed) come.channels c));
+      assumed = f.assumed ∙ ap (λ (xs : List AssumedLine). xs ++ assumes) come.assumed ∙ sym (flat_map_more (λ (c : ImportedLog). c.assumed) come.channels c);
       noted = f.noted ∙ ap (λ (xs : List ℕ). xs ++ note) come.noted ∙ sym (flat_map_more (λ (c : ImportedLog). c.notes) come.channels c);
     }
 
 taken_of : (terms : Terms) (start : BundleValue) (text left : List ℕ) (p : ImportProgress) (come : HasCome terms start text left p) → HasTaken terms come.head come.plain come.front come.written left text
-taken_of terms start text left p come = record { alone = come.alone; plain_head = come.plain_head; channels = come.channels; corresponds = come.corresponds; parts = come.parts; begins = come.begins; taken = is_taken come.written (bundle_reading p.reader) come.fed }
+taken_of terms start text left p come = record { alone = come.alone; passed_over = p.passed_over; plain_head = come.plain_head; channels = come.channels; corresponds = come.corresponds; parts = come.parts; begins = come.begins; taken = is_taken come.written (bundle_reading p.reader) come.fed }
 
 -- ---- why no more has come
 
@@ -175,13 +173,14 @@ is_last left own behind (Nowhere e) parts first = inr (front_nil own behind (sym
 is_last left own behind (Last after e) parts first = inl (first (codes "done") after (done_begins left after e)).0
 
 -- what is said before what is left is said of what has come
-says_of : (terms : Terms) (start : BundleValue) (text left other said : List ℕ) (p : ImportProgress) (come : HasCome terms start text left p) → left ≡ other → IsSaidBefore terms.grants left p.assumed.items said → IsSaidBefore terms.grants other (all_assumed terms come.channels) said
-says_of terms start text left other said p come e says = subst (λ (xs : List ℕ). IsSaidBefore terms.grants xs (all_assumed terms come.channels) said) e (subst (λ (ls : List AssumedLine). IsSaidBefore terms.grants left ls said) come.assumed says)
+says_of : (terms : Terms) (start : BundleValue) (text left other said : List ℕ) (p : ImportProgress) (come : HasCome terms start text left p) → left ≡ other → IsSaidBefore terms.grants left p.assumed.items p.passed_over said → IsSaidBefore terms.grants other (all_assumed come.channels) p.passed_over said
+says_of terms start text left other said p come e says = subst (λ (xs : List ℕ). IsSaidBefore terms.grants xs (all_assumed come.channels) p.passed_over said) e (subst (λ (ls : List AssumedLine). IsSaidBefore terms.grants left ls p.passed_over said) come.assumed says)
 
 -- what has come, where what is left is in two parts
 abbrev taken_before : (terms : Terms) (start : BundleValue) (text left other : List ℕ) (p : ImportProgress) (come : HasCome terms start text left p) → left ≡ other → HasTaken terms come.head come.plain come.front come.written other text
 taken_before terms start text left other p come e = record {
   alone = come.alone;
+  passed_over = p.passed_over;
   plain_head = come.plain_head;
   channels = come.channels;
   corresponds = come.corresponds;
@@ -191,7 +190,7 @@ taken_before terms start text left other p come e = record {
 }
 
 -- what comes after the last line is refused, or that there is none
-pub end_refused : (terms : Terms) (start : BundleValue) (text left own behind said : List ℕ) (p : ImportProgress) (q : BundleProgress) (fault : JournalFault) (n : ℕ) → BeginsLast left → HasCome terms start text left p → left ≡ own ++ behind → SplitsFirst left own behind → IsSaidBefore terms.grants left p.assumed.items said
+pub end_refused : (terms : Terms) (start : BundleValue) (text left own behind said : List ℕ) (p : ImportProgress) (q : BundleProgress) (fault : JournalFault) (n : ℕ) → BeginsLast left → HasCome terms start text left p → left ≡ own ++ behind → SplitsFirst left own behind → IsSaidBefore terms.grants left p.assumed.items p.passed_over said
     → ((before : List ℕ) → HasRead p before → IsFed q (before ++ (said ++ own))) → ((before : List ℕ) → IsFed q before → IsRefused fault (before ++ behind)) → IsLineAt text behind n → IsNoOwn terms (fault_at_line fault n) text
 end_refused terms start text left own behind said p q fault n last come parts first says fed stops at =
     let fed_own = fed come.written come.fed in
@@ -212,7 +211,7 @@ end_refused terms start text left own behind said p q fault n last come parts fi
     })))
 
 -- the last line is refused, or what is said before it, or nothing is
-pub last_refused : (terms : Terms) (start : BundleValue) (text left own behind said : List ℕ) (p : ImportProgress) (fault : JournalFault) (n : ℕ) → BeginsLast left → HasCome terms start text left p → left ≡ own ++ behind → SplitsFirst left own behind → IsSaidBefore terms.grants left p.assumed.items said
+pub last_refused : (terms : Terms) (start : BundleValue) (text left own behind said : List ℕ) (p : ImportProgress) (fault : JournalFault) (n : ℕ) → BeginsLast left → HasCome terms start text left p → left ≡ own ++ behind → SplitsFirst left own behind → IsSaidBefore terms.grants left p.assumed.items p.passed_over said
     → ((before : List ℕ) → HasRead p before → StopsAt fault (before ++ (said ++ own))) → IsLineAt text left n → IsNoOwn terms (fault_at_line fault n) text
 last_refused terms start text left own behind said p fault n (Last after e) come parts first says stops at =
     let is : own ≡ done_line = (first (codes "done") after (done_begins left after e)).0 in
@@ -231,7 +230,7 @@ last_refused terms start text left own behind said p fault n (Last after e) come
 last_refused terms start text left own behind said p fault n (Nowhere e) come parts first says stops at =
     let none = front_nil own behind (sym e ∙ parts) in
     let nothing : left ≡ behind = parts ∙ ap (λ (xs : List ℕ). xs ++ behind) none.0 in
-    let silent : said ≡ [] = subst (λ (xs : List ℕ). IsSaidBefore terms.grants xs p.assumed.items said) e says in
+    let silent : said ≡ [] = subst (λ (xs : List ℕ). IsSaidBefore terms.grants xs p.assumed.items p.passed_over said) e says in
     let both : said ++ own ≡ [] = (λ i. silent i ++ none.0 i) in
     let same : (xs : List ℕ) → xs ++ (said ++ own) ≡ xs = λ xs. ap (λ (ys : List ℕ). xs ++ ys) both ∙ append-nil xs in
     end_refused terms start text left own behind said p (bundle_reading p.reader) fault n (Nowhere e) come parts first says
@@ -336,17 +335,18 @@ module _ {terms : Terms} {start : BundleValue} {text left line after log behind 
       (name_in why.own, record { written = h.come.written; channel = line; own = why.own; log = log; executed = why.executed; start = start; has = has_log why.own why.executed why.line_taken; named = refl; none = why.cant })
   channel_refused (channels.Binlog name of_log) cant =
       let why = cant h.come.written h.come.fed in
-      (n, record { written = h.come.written; channel = line; own = why.own; log = log; executed = why.executed; start = start; has = has_log why.own why.executed why.line_taken; named = why.cant.0; none = subst (λ (xs : List ℕ). terms.origin.refuses xs log start (sources.File of_log)) (sym why.cant.0) why.cant.1 })
+      (n, record { written = h.come.written; channel = line; own = why.own; log = log; executed = why.executed; start = start; has = has_log why.own why.executed why.line_taken; named = why.cant.0; none = subst (λ (xs : List ℕ). terms.origin.refuses xs log start.opened (sources.File of_log)) (sym why.cant.0) why.cant.1 })
 
 -- ---- the whole
 
-pub end_found : (terms : Terms) (start : BundleValue) (text left own behind said : List ℕ) (p : ImportProgress) (q : BundleProgress) (b : BundleValue) → BeginsLast left → HasCome terms start text left p → left ≡ own ++ behind → IsSaidBefore terms.grants left p.assumed.items said
+pub end_found : (terms : Terms) (start : BundleValue) (text left own behind said : List ℕ) (p : ImportProgress) (q : BundleProgress) (b : BundleValue) → BeginsLast left → HasCome terms start text left p → left ≡ own ++ behind → IsSaidBefore terms.grants left p.assumed.items p.passed_over said
     → ((before : List ℕ) → HasRead p before → IsFed q (before ++ (said ++ own))) → ((before : List ℕ) → IsFed q before → WritesBundle (before ++ behind) b) → IsDescribed terms text b p.executed.items p.notes.items
 end_found terms start text left own behind said p q b last come parts says fed writes = record {
   channels = come.channels;
   describes = record {
     head = come.head;
     plain = come.plain;
+    passed_over = p.passed_over;
     alone = come.alone;
     plain_head = come.plain_head;
     front = come.front;
@@ -393,12 +393,13 @@ none_said b n executed journal says brings = absurd (let bad : None ≡ Some (So
 any_version : (bytes : List ℕ) (b : BundleValue) → WritesBundleBy (Only Three) bytes b → WritesBundle bytes b
 any_version bytes b w = record { lines = w.lines; parts = w.parts; fit = w.fit; written = (w.written.0, refl, w.written.2) }
 
-pub head_found : (terms : Terms) (text head plain notes rest : List ℕ) (b : BundleValue) → HasHead terms text head plain rest → rest ≡ [] → notes ≡ [] → WritesBundleBy (Only Three) (plain ++ end_for rest) b → ImportsBundle terms text b notes
-head_found terms text head plain notes rest b h nothing silent writes = record {
+pub head_found : (terms : Terms) (text head plain notes rest : List ℕ) (passed_over : Bool) (b : BundleValue) → HasHead terms text head plain passed_over rest → rest ≡ [] → notes ≡ [] → WritesBundleBy (Only Three) (plain ++ end_for rest) b → ImportsBundle terms text b notes
+head_found terms text head plain notes rest passed_over b h nothing silent writes = record {
   channels = [];
   describes = record {
     head = head;
     plain = plain;
+    passed_over = passed_over;
     alone = h.cut.none;
     plain_head = h.plain_head;
     front = head;
@@ -408,7 +409,7 @@ head_found terms text head plain notes rest b h nothing silent writes = record {
     ends = Nowhere nothing;
     parts = h.cut.parts;
     assumes = [];
-    says = subst (λ (xs : List ℕ). IsSaidBefore terms.grants xs (all_assumed terms []) []) (sym nothing) refl;
+    says = subst (λ (xs : List ℕ). IsSaidBefore terms.grants xs [] passed_over []) (sym nothing) refl;
     writes = subst (λ (xs : List ℕ). WritesBundle (plain ++ xs) b) (ap end_for nothing ∙ sym nothing) (any_version (plain ++ end_for rest) b writes);
     notes_are = silent;
   };
@@ -416,12 +417,13 @@ head_found terms text head plain notes rest b h nothing silent writes = record {
   within = none_said b;
 }
 
-pub head_refused : (terms : Terms) (fault found : JournalFault) (text head plain rest : List ℕ) (h : HasHead terms text head plain rest) → IsHeadRefused fault (plain ++ end_for rest) → found ≡ fault_in_head h.plain_head.lines fault → IsNoOwn terms found text
-head_refused terms fault found text head plain rest h stops is = head_at terms found text (record {
+pub head_refused : (terms : Terms) (fault found : JournalFault) (text head plain rest : List ℕ) (passed_over : Bool) (h : HasHead terms text head plain passed_over rest) → IsHeadRefused fault (plain ++ end_for rest) → found ≡ fault_in_head h.plain_head.lines fault → IsNoOwn terms found text
+head_refused terms fault found text head plain rest passed_over h stops is = head_at terms found text (record {
   head = head;
   rest = rest;
   cut = h.cut;
   plain = plain;
+  passed_over = passed_over;
   plain_head = h.plain_head;
   own = fault;
   stops = stops;
@@ -433,9 +435,9 @@ end_more [] more = absurd (more refl)
 end_more (b ∷ bs) more = refl
 
 -- the reader of channels stops in the head
-pub start_refused : (terms : Terms) (start : BundleValue) (fault found : JournalFault) (text head plain rest : List ℕ) (h : HasHead terms text head plain rest) → rest ≢ [] → IsStart plain start → StopsAt fault plain → found ≡ fault_in_head h.plain_head.lines fault → IsNoOwn terms found text
-start_refused terms start fault found text head plain rest h more has stops is =
-    head_refused terms fault found text head plain rest h
+pub start_refused : (terms : Terms) (start : BundleValue) (fault found : JournalFault) (text head plain rest : List ℕ) (passed_over : Bool) (h : HasHead terms text head plain passed_over rest) → rest ≢ [] → IsStart plain start → StopsAt fault plain → found ≡ fault_in_head h.plain_head.lines fault → IsNoOwn terms found text
+start_refused terms start fault found text head plain rest passed_over h more has stops is =
+    head_refused terms fault found text head plain rest passed_over h
     (subst (λ (xs : List ℕ). IsHeadRefused fault (plain ++ xs)) (sym (end_more rest more)) (head_stops fault plain done_line start (any_version (plain ++ done_line) start has) stops)) is
 
 pub start_of : (plain rest : List ℕ) (start : BundleValue) → rest ≢ [] → WritesBundleBy (Only Three) (plain ++ end_for rest) start → IsStart plain start

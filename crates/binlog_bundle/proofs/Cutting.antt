@@ -132,5 +132,5 @@ done_begins left after e = record { parts = e; whole = refl }
 
 -- ---- tables
 
-pub none_other : (ignored : List (List ℕ)) (tables : List Table) (log left : List ℕ) → HasPassed (IsPlain ignored tables) log left → IsOneLine left → HasNoOther ignored tables log
-none_other ignored tables log left h one = record { lines = h.lines; rest = left; parts = h.parts; plain = h.all; part = one }
+pub none_other : (tables : List Table) (log left : List ℕ) → HasPassed (IsPlain tables) log left → IsOneLine left → HasNoOther tables log
+none_other tables log left h one = record { lines = h.lines; rest = left; parts = h.parts; plain = h.all; part = one }

@@ -1,7 +1,7 @@
--- Heads, their lines `unsupported ..`, and what their other lines name.
-use Rattle.std.proofs.Common.{◌≡◌, ◌≢◌, ℕ, ◌+◌, ◌-◌, ◌<◌, ◌≤◌, Bool, true, false, not, is_some, List, [], ◌∷◌, ◌++◌, Option, Some, None, cond, length, drop, codes, refl, sym, ap, ◌∙◌, subst, append_assoc, append-nil, length-append, zero-add, add-zero, arith}
+-- Heads, their lines `unsupported ..`, and their lines `collate ..`.
+use Rattle.std.proofs.Common.{◌≡◌, ◌≢◌, ℕ, ◌+◌, ◌-◌, ◌<◌, ◌≤◌, Bool, true, false, not, is_some, List, [], ◌∷◌, ◌++◌, length, drop, codes, refl, sym, ap, ◌∙◌, subst, append_assoc, append-nil, length-append, zero-add, add-zero, arith}
 use Rattle.std.specs.Prelude.{◌||◌, nat_eq, nat_le, Result, Ok, Err, OnOk, if◌then◌else◌}
-use Rattle.std.specs.List.{starts_with, list_any, find, flat_map, AllByRecursion}
+use Rattle.std.specs.List.{starts_with, list_any, flat_map, AllByRecursion}
 use Rattle.std.proofs.lemmas.List.Folds.{list_any-append}
 use Rattle.std.proofs.lemmas.Slice.Eq.{starts_is}
 use Rattle.std.proofs.lemmas.Bool.Decides.{Decides-eqb, nat_tests}
@@ -11,10 +11,8 @@ use Rattle.txn_journal.specs.Words.{IsOneLine, BeginsWithLine}
 use Rattle.binlog_entries.proofs.TransactionLaws.{flat_map_more}
 use Rattle.binlog_bundle.specs.Lines.{with_line_feed, AreLines}
 use Rattle.derived_columns.specs.declared.column.DerivedColumn.{DerivedColumn}
-use Rattle.binlog_bundle.specs.Collated.{columns_of}
-use Rattle.binlog_bundle.specs.Ignored.{ignored_of, first_ignored}
-use Rattle.binlog_bundle.specs.Said.{Said, said_by}
-use Rattle.binlog_bundle.specs.Heads.{is_unsupported, is_passed, is_granted, plain_text, IsGranted, IsPlainHead, IsNotGranted, IsNoPlainHead, OfLine, skipped}
+use Rattle.binlog_bundle.specs.Collated.{column_list, columns_of}
+use Rattle.binlog_bundle.specs.Heads.{is_unsupported, is_passed, is_granted, plain_text, IsGranted, IsPlainHead, IsNotGranted, IsNoPlainHead, skipped}
 use Rattle.binlog_bundle.specs.declared.head.HeadFault.{HeadFault}
 use Rattle.binlog_bundle.specs.declared.head.HeadFault.TheVariants as heads
 use Rattle.binlog_bundle.specs.declared.grants.Grants.{Grants}
@@ -29,23 +27,36 @@ not_begun text front denied = known (starts_with nat_eq text front) refl
     known false e = refl
     known true e = absurd (denied _ ((starts_is Decides-eqb text front (starts_with nat_eq text front) refl).0 e))
 
+pub or_false : (b v : Bool) → v ≡ false → b ≡ (b || v)
+or_false true v e = refl
+or_false false v e = sym e
+
 pub plain_line : (line : List ℕ) → ((rest : List ℕ) → line ≢ codes "unsupported " ++ rest) → is_unsupported line ≡ false
 plain_line line denied = not_begun line (codes "unsupported ") denied
 
+-- it holds, so it does after a call that succeeds
+pub when_ok : {A E P : Type 0} (r : Result A E) → P → OnOk r P
+when_ok (Ok a) p = p
+when_ok (Err e) p = tt
+
 -- ---- heads
 
--- some lines of a head have come, and this is the plain text of them
-pub record HasHeadCome (grants : Grants) (columns : List DerivedColumn) (head left text : List ℕ) : Type 0 where
+-- some lines of a head have come, and this is the plain text of them, and whether some were passed over
+pub record HasHeadCome (grants : Grants) (columns : List DerivedColumn) (head left text : List ℕ) (passed_over : Bool) : Type 0 where
   pub lines : List (List ℕ)
   pub parts : head ≡ flat_map with_line_feed lines ++ left
   pub granted : AllByRecursion (IsGranted grants) lines
   pub text_is : text ≡ flat_map (plain_text columns) lines
+  pub passed : passed_over ≡ list_any is_unsupported lines
 
 all_of : (f : List ℕ → List ℕ) (xs ys : List ℕ) (ls : List (List ℕ)) (line : List ℕ) → xs ≡ flat_map f ls → ys ≡ xs ++ f line → ys ≡ flat_map f (ls ++ line ∷ [])
 all_of f xs ys ls line e g = g ∙ ap (λ (zs : List ℕ). zs ++ f line) e ∙ sym (flat_map_more f ls line)
 
-pub head_more : (grants : Grants) (columns : List DerivedColumn) (head left line after text text_new : List ℕ) → HasHeadCome grants columns head left text → BeginsWithLine left line after → is_granted grants line ≡ true → text_new ≡ text ++ plain_text columns line → HasHeadCome grants columns head after text_new
-head_more grants columns head left line after text text_new h begins granted t = record {
+or_last : (lines : List (List ℕ)) (line : List ℕ) → (list_any is_unsupported lines || is_unsupported line) ≡ list_any is_unsupported (lines ++ line ∷ [])
+or_last lines line = ap (λ (b : Bool). list_any is_unsupported lines || b) (or_false (is_unsupported line) false refl) ∙ sym (list_any-append is_unsupported lines (line ∷ []))
+
+pub head_more : (grants : Grants) (columns : List DerivedColumn) (head left line after text text_new : List ℕ) (passed passed_new : Bool) → HasHeadCome grants columns head left text passed → BeginsWithLine left line after → is_granted grants line ≡ true → text_new ≡ text ++ plain_text columns line → passed_new ≡ (passed || is_unsupported line) → HasHeadCome grants columns head after text_new passed_new
+head_more grants columns head left line after text text_new passed passed_new h begins granted t n = record {
   lines = h.lines ++ line ∷ [];
   parts =
       h.parts
@@ -54,11 +65,12 @@ head_more grants columns head left line after text text_new h begins granted t =
       ∙ ap (λ (xs : List ℕ). xs ++ after) (sym (flat_map_more with_line_feed h.lines line));
   granted = all_push (IsGranted grants) h.lines line h.granted (begins.whole, granted);
   text_is = all_of (plain_text columns) text text_new h.lines line h.text_is t;
+  passed = n ∙ ap (λ (b : Bool). b || is_unsupported line) h.passed ∙ or_last h.lines line;
 }
 
-pub head_refused : (grants : Grants) (columns : List DerivedColumn) (head left line after text : List ℕ) (fault : HeadFault) → HasHeadCome grants columns head left text → BeginsWithLine left line after → IsNotGranted grants line fault → IsNoPlainHead grants head fault
-head_refused grants columns head left line after text heads.Memory h begins denied = tt
-head_refused grants columns head left line after text (heads.Unsupported what) h begins denied = OfLine (record {
+pub head_refused : (grants : Grants) (columns : List DerivedColumn) (head left line after text : List ℕ) (passed : Bool) (fault : HeadFault) → HasHeadCome grants columns head left text passed → BeginsWithLine left line after → IsNotGranted grants line fault → IsNoPlainHead grants head fault
+head_refused grants columns head left line after text passed heads.Memory h begins denied = tt
+head_refused grants columns head left line after text passed (heads.Unsupported what) h begins denied = record {
   before = h.lines;
   line = line;
   rest = after;
@@ -67,32 +79,28 @@ head_refused grants columns head left line after text (heads.Unsupported what) h
   whole = begins.whole;
   refused = denied.0;
   says = denied.1;
-})
+}
 
 whole_of : (grants : Grants) (ls : List (List ℕ)) → AllByRecursion (IsGranted grants) ls → AllByRecursion IsOneLine ls
 whole_of grants [] all = tt
 whole_of grants (l ∷ ls) all = (all.0.0, whole_of grants ls all.1)
 
-pub head_lines : (grants : Grants) (said : Said) (head plain : List ℕ) (h : IsPlainHead grants said head plain) → AreLines h.lines head
-head_lines grants said head plain h = record { rest = h.rest; parts = h.parts; whole = whole_of grants h.lines h.granted; part = h.part }
+pub head_lines : (grants : Grants) (columns : List DerivedColumn) (head plain : List ℕ) (passed : Bool) (h : IsPlainHead grants columns head plain passed) → AreLines h.lines head
+head_lines grants columns head plain passed h = record { rest = h.rest; parts = h.parts; whole = whole_of grants h.lines h.granted; part = h.part }
 
 -- all lines have come
-pub head_whole : (grants : Grants) (columns : List DerivedColumn) (ignored : List (List ℕ)) (head left text plain : List ℕ) → ((lines : List (List ℕ)) → AreLines lines head → columns ≡ columns_of lines)
-    → ((lines : List (List ℕ)) → AreLines lines head → ignored ≡ ignored_of lines) → ((lines : List (List ℕ)) → AreLines lines head → first_ignored ignored lines ≡ None)
-    → HasHeadCome grants columns head left text → IsOneLine left → plain ≡ text ++ left → IsPlainHead grants (said_by columns ignored) head plain
-head_whole grants columns ignored head left text plain named left_out apart h one e =
-    let are : AreLines h.lines head = record { rest = left; parts = h.parts; whole = whole_of grants h.lines h.granted; part = one } in
-    record {
-      lines = h.lines;
-      rest = left;
-      parts = h.parts;
-      granted = h.granted;
-      part = one;
-      columns_are = named h.lines are;
-      ignored_are = left_out h.lines are;
-      apart = apart h.lines are;
-      plain_is = e ∙ ap (λ (xs : List ℕ). xs ++ left) h.text_is;
-    }
+pub head_whole : (grants : Grants) (columns : List DerivedColumn) (head left text plain : List ℕ) (passed : Bool) → ((lines : List (List ℕ)) → AreLines lines head → columns ≡ columns_of lines)
+    → HasHeadCome grants columns head left text passed → IsOneLine left → plain ≡ text ++ left → IsPlainHead grants columns head plain passed
+head_whole grants columns head left text plain passed named h one e = record {
+  lines = h.lines;
+  rest = left;
+  parts = h.parts;
+  granted = h.granted;
+  part = one;
+  columns_are = named h.lines (record { rest = left; parts = h.parts; whole = whole_of grants h.lines h.granted; part = one });
+  plain_is = e ∙ ap (λ (xs : List ℕ). xs ++ left) h.text_is;
+  passed = h.passed;
+}
 
 -- ---- numbers of lines
 
@@ -178,70 +186,34 @@ no_lines (l ∷ ls) left are one =
 pub skips_end : (lines : List (List ℕ)) (n : ℕ) (left : List ℕ) (count due : ℕ) → IsSkipping lines n left count due → IsOneLine left → skipped lines n ≡ count
 skips_end lines n left count due h one = h.counts ∙ ap (λ (ls : List (List ℕ)). count + skipped ls due) (no_lines h.more left h.are one) ∙ add-zero count
 
--- ---- what lines name
+-- ---- columns that are named
 
-module _ {A : Type 0} (named : List ℕ → List A) where
-  -- this was named by the lines before, and more lines are left
-  pub record IsNaming (lines : List (List ℕ)) (left : List ℕ) (names : List A) : Type 0 where
-    pub more : List (List ℕ)
-    pub are : AreLines more left
-    pub all : names ++ flat_map named more ≡ flat_map named lines
+-- these were named by the lines before, and more lines are left
+pub record IsNaming (lines : List (List ℕ)) (left : List ℕ) (columns : List DerivedColumn) : Type 0 where
+  pub more : List (List ℕ)
+  pub are : AreLines more left
+  pub all : columns ++ columns_of more ≡ columns_of lines
 
-  pub names_none : (lines : List (List ℕ)) (head left : List ℕ) (names : List A) → head ≡ left → names ≡ [] → AreLines lines head → IsNaming lines left names
-  names_none lines head left names e f are = record {
-    more = lines;
-    are = subst (AreLines lines) e are;
-    all = ap (λ (cs : List A). cs ++ flat_map named lines) f;
-  }
+pub names_none : (lines : List (List ℕ)) (head left : List ℕ) (columns : List DerivedColumn) → head ≡ left → columns ≡ [] → AreLines lines head → IsNaming lines left columns
+names_none lines head left columns e f are = record {
+  more = lines;
+  are = subst (AreLines lines) e are;
+  all = ap (λ (cs : List DerivedColumn). cs ++ columns_of lines) f;
+}
 
-  pub names_more : (lines : List (List ℕ)) (left line after : List ℕ) (names names_new : List A) → IsNaming lines left names → BeginsWithLine left line after → names_new ≡ names ++ named line → IsNaming lines after names_new
-  names_more lines left line after names names_new h begins e =
-      let first = first_of h.more left line after h.are begins in
-      record {
-        more = first.rest;
-        are = first.are;
-        all =
-            ap (λ (cs : List A). cs ++ flat_map named first.rest) e
-            ∙ append_assoc names (named line) (flat_map named first.rest)
-            ∙ ap (λ (ls : List (List ℕ)). names ++ flat_map named ls) (sym first.is)
-            ∙ h.all;
-      }
+pub names_more : (lines : List (List ℕ)) (left line after : List ℕ) (columns columns_new : List DerivedColumn) → IsNaming lines left columns → BeginsWithLine left line after → columns_new ≡ columns ++ column_list line → IsNaming lines after columns_new
+names_more lines left line after columns columns_new h begins e =
+    let first = first_of h.more left line after h.are begins in
+    record {
+      more = first.rest;
+      are = first.are;
+      all =
+          ap (λ (cs : List DerivedColumn). cs ++ columns_of first.rest) e
+          ∙ append_assoc columns (column_list line) (columns_of first.rest)
+          ∙ ap (λ (ls : List (List ℕ)). columns ++ columns_of ls) (sym first.is)
+          ∙ h.all;
+    }
 
-  pub names_all : (lines : List (List ℕ)) (left : List ℕ) (names : List A) → IsNaming lines left names → IsOneLine left → names ≡ flat_map named lines
-  names_all lines left names h one =
-      sym (append-nil names) ∙ ap (λ (ls : List (List ℕ)). names ++ flat_map named ls) (sym (no_lines h.more left h.are one)) ∙ h.all
-
--- ---- the first line that passes
-
-module _ (p : List ℕ → Bool) where
-  -- no line before passes, and more lines are left
-  pub record IsFinding (lines : List (List ℕ)) (left : List ℕ) : Type 0 where
-    pub more : List (List ℕ)
-    pub are : AreLines more left
-    pub same : find p more ≡ find p lines
-
-  pub finds_none : (lines : List (List ℕ)) (head left : List ℕ) → head ≡ left → AreLines lines head → IsFinding lines left
-  finds_none lines head left e are = record { more = lines; are = subst (AreLines lines) e are; same = refl }
-
-  found_first : (line : List ℕ) (ls : List (List ℕ)) → p line ≡ true → find p (line ∷ ls) ≡ Some line
-  found_first line ls e = λ i. cond (e i) (Some line) (find p ls)
-
-  passed_first : (line : List ℕ) (ls : List (List ℕ)) → p line ≡ false → find p (line ∷ ls) ≡ find p ls
-  passed_first line ls e = λ i. cond (e i) (Some line) (find p ls)
-
-  pub finds_more : (lines : List (List ℕ)) (left line after : List ℕ) → IsFinding lines left → BeginsWithLine left line after → p line ≡ false → IsFinding lines after
-  finds_more lines left line after h begins e =
-      let first = first_of h.more left line after h.are begins in
-      record {
-        more = first.rest;
-        are = first.are;
-        same = sym (passed_first line first.rest e) ∙ ap (λ (ls : List (List ℕ)). find p ls) (sym first.is) ∙ h.same;
-      }
-
-  pub finds_one : (lines : List (List ℕ)) (left line after : List ℕ) → IsFinding lines left → BeginsWithLine left line after → p line ≡ true → Some line ≡ find p lines
-  finds_one lines left line after h begins e =
-      let first = first_of h.more left line after h.are begins in
-      sym (found_first line first.rest e) ∙ ap (λ (ls : List (List ℕ)). find p ls) (sym first.is) ∙ h.same
-
-  pub finds_nothing : (lines : List (List ℕ)) (left : List ℕ) → IsFinding lines left → IsOneLine left → None ≡ find p lines
-  finds_nothing lines left h one = ap (λ (ls : List (List ℕ)). find p ls) (sym (no_lines h.more left h.are one)) ∙ h.same
+pub names_all : (lines : List (List ℕ)) (left : List ℕ) (columns : List DerivedColumn) → IsNaming lines left columns → IsOneLine left → columns ≡ columns_of lines
+names_all lines left columns h one =
+    sym (append-nil columns) ∙ ap (λ (ls : List (List ℕ)). columns ++ columns_of ls) (sym (no_lines h.more left h.are one)) ∙ h.all

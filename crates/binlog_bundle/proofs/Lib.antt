@@ -1,8 +1,6 @@
 mod Accepting
 pub mod Feeding
 pub mod Cutting
-pub mod HeadLines
-pub mod Weaving
 pub mod Bringing
 pub mod Coming
 pub mod OwnLines
@@ -12,4 +10,3 @@ pub mod Lacking
 pub mod Counting
 pub mod Weighing
 pub mod Fronts
-pub mod Keeping

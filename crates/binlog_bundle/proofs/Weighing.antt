@@ -3,12 +3,12 @@ use Rattle.std.proofs.Common.{inr, ◌≡◌, ℕ, Bool, true, List, [], ◌∷�
 use Rattle.std.specs.Prelude.{◌&&◌}
 use Rattle.std.specs.List.{list_all}
 use Rattle.gtid_text.specs.declared.Gtid.{Gtid}
-use Rattle.txn_journal.specs.BundleStates.{BundleValue}
+use Rattle.gtid_set.specs.Sets.{Gtids}
 use Rattle.journal.specs.declared.Entry.{Entry}
 use Rattle.journal.specs.Writing.{is_number}
 use Rattle.log_transactions.specs.declared.machine.LoggedTransactions.{LoggedTransactions}
+use Rattle.derived_columns.specs.declared.column.DerivedColumn.{DerivedColumn}
 use Rattle.binlog_bundle.specs.Logs.{Origin}
-use Rattle.binlog_bundle.specs.Said.{Said}
 use Rattle.binlog_bundle.specs.Weighed.{IsUnweighed, IsUnweighedLog}
 use Rattle.binlog_bundle.specs.declared.fault.Logless.TheVariants as why
 use Rattle.binlog_bundle.specs.declared.fault.SourceFault.{SourceFault}
@@ -26,12 +26,12 @@ pub same_numbers : (es ds : List Entry) → map (λ e. e.gtid) ds ≡ map (λ e.
 same_numbers es ds same all = numbers_of ds ∙ ap are_numbers same ∙ sym (numbers_of es) ∙ all
 
 -- a log has no hidden values, so the channel has no log with them
-pub unweighed_so : (said : Said) (origin : Origin) (name text : List ℕ) (head : BundleValue) (log : LoggedTransactions) (fault : SourceFault)
-    → origin.is_log name text head log.previous log.entries.items log.varied.items → IsUnweighedLog said log fault → IsUnweighed said origin name text head fault
-unweighed_so said origin name text head log (sources.Text fault) has none = inr none
-unweighed_so said origin name text head log (sources.Logless why.Missing) has none = absurd none
-unweighed_so said origin name text head log (sources.Logless why.Surplus) has none = absurd none
-unweighed_so said origin name text head log (sources.Logless (why.Collation table column)) has none = inr (record {
+pub unweighed_so : (columns : List DerivedColumn) (origin : Origin) (name text : List ℕ) (opening : Gtids) (log : LoggedTransactions) (fault : SourceFault)
+    → origin.is_log name text opening log.previous log.entries.items log.varied.items → IsUnweighedLog columns log fault → IsUnweighed columns origin name text opening fault
+unweighed_so columns origin name text opening log (sources.Text fault) has none = inr none
+unweighed_so columns origin name text opening log (sources.Logless why.Missing) has none = absurd none
+unweighed_so columns origin name text opening log (sources.Logless why.Surplus) has none = absurd none
+unweighed_so columns origin name text opening log (sources.Logless (why.Collation table column)) has none = inr (record {
   previous = log.previous;
   logged = log.entries.items;
   varied = log.varied.items;
@@ -40,7 +40,7 @@ unweighed_so said origin name text head log (sources.Logless (why.Collation tabl
   first = none.1;
   named = (none.2, none.3);
 })
-unweighed_so said origin name text head log (sources.Logless (why.Weights gtid table column)) has none = inr (record {
+unweighed_so columns origin name text opening log (sources.Logless (why.Weights gtid table column)) has none = inr (record {
   previous = log.previous;
   logged = log.entries.items;
   varied = log.varied.items;
@@ -48,5 +48,4 @@ unweighed_so said origin name text head log (sources.Logless (why.Weights gtid t
   agrees = none.0;
   none = none.1;
 })
-unweighed_so said origin name text head log (sources.Logless (why.Cascade line)) has none = absurd none
-unweighed_so said origin name text head log (sources.File fault) has none = absurd none
+unweighed_so columns origin name text opening log (sources.File fault) has none = absurd none

@@ -1,6 +1,6 @@
 -- What is assumed of a bundle of logs, as lines before its last one: what was granted of its channels and of its head, what of the opening
--- set the servers of channels hadn't executed, which logs may be damaged unseen, for which statements an operator answers, and what is ignored.
-use Rattle.std.specs.Prelude.{◌≡◌, ℕ, Bool, List, [], ◌∷◌, ◌++◌, codes, map, Option, Some, None, if◌then◌else◌}
+-- set the servers of channels hadn't executed, which logs may be damaged unseen, and for which statements an operator answers.
+use Rattle.std.specs.Prelude.{◌≡◌, ℕ, Bool, List, [], ◌∷◌, ◌++◌, codes, Option, Some, None, if◌then◌else◌}
 use Rattle.std.specs.Cmp.Lexicographic.{slice_cmp}
 use Rattle.std.specs.FinSet as set
 use Rattle.std.specs.List.{flat_map}
@@ -34,10 +34,6 @@ opening_line channel part = record { rank = 2; text = codes "assume opening " ++
 abbrev pub statements_line : List ℕ → Gtids → AssumedLine
 statements_line channel gtids = record { rank = 3; text = codes "assume statements " ++ (channel ++ (32 ∷ canonical gtids)) }
 
--- changes of this table, or of all tables of this database, were left out
-abbrev pub ignored_line : List ℕ → AssumedLine
-ignored_line name = record { rank = 4; text = codes "assume ignored " ++ name }
-
 -- foreign keys aren't looked at
 abbrev pub references_line : List ℕ
 references_line = codes "assume references"
@@ -46,7 +42,7 @@ references_line = codes "assume references"
 abbrev pub rows_line : List ℕ
 rows_line = codes "assume rows"
 
--- the order of a bundle's lines `assume ..` of channels and of what is ignored: by their kinds, and within a kind by their bytes
+-- the order of a bundle's lines `assume ..` of channels: by their kinds, and within a kind by their bytes
 abbrev pub line_cmp : AssumedLine → AssumedLine → Ordering
 line_cmp a b = ordering_then (nat_cmp a.rank b.rank) (slice_cmp nat_cmp a.text b.text)
 
@@ -72,13 +68,9 @@ abbrev pub assumed_of : List ℕ → Gtids → Option Gtids → Bool → Gtids �
 assumed_of channel opened executed unchecked statements =
     (checksums_lines channel unchecked ++ executed_lines channel opened executed) ++ statements_lines channel statements
 
--- of the head, by the names that it says are ignored
-abbrev pub ignored_lines : List (List ℕ) → List AssumedLine
-ignored_lines names = map ignored_line names
-
--- of foreign keys, if it is granted that they aren't looked at
-abbrev pub references_text : Grants → List ℕ
-references_text grants = if grants.without_foreign_keys then with_line_feed references_line else []
+-- of the head, if its lines of foreign keys were passed over
+abbrev pub references_text : Bool → List ℕ
+references_text passed_over = if passed_over then with_line_feed references_line else []
 
 -- of the opening rows, if it is granted that they aren't known
 abbrev pub rows_text : Grants → List ℕ
@@ -94,14 +86,14 @@ IsPartFault fault opened (Some executed) = IsFaultOf fault (set.difference opene
 abbrev pub text_of : List AssumedLine → List ℕ
 text_of lines = flat_map (λ line. with_line_feed line.text) lines
 
--- The lines of channels and of what is ignored in their order, and then those of foreign keys and of rows.
-pub record IsAssumeText (grants : Grants) (of_channels : List AssumedLine) (text : List ℕ) : Type 0 where
+-- The lines of channels in their order, and then those of the head and of its rows.
+pub record IsAssumeText (grants : Grants) (of_channels : List AssumedLine) (passed_over : Bool) (text : List ℕ) : Type 0 where
   pub lines : List AssumedLine
   pub each : IsPermutation of_channels lines
   pub order : IsSorted line_cmp lines
-  pub text_is : text ≡ (text_of lines ++ references_text grants) ++ rows_text grants
+  pub text_is : text ≡ (text_of lines ++ references_text passed_over) ++ rows_text grants
 
 -- that text, if the last line of a bundle comes next; nothing, if nothing does
-abbrev pub IsSaidBefore : Grants → List ℕ → List AssumedLine → List ℕ → Type 0
-IsSaidBefore grants [] of_channels said = said ≡ []
-IsSaidBefore grants (b ∷ bs) of_channels said = IsAssumeText grants of_channels said
+abbrev pub IsSaidBefore : Grants → List ℕ → List AssumedLine → Bool → List ℕ → Type 0
+IsSaidBefore grants [] of_channels passed_over said = said ≡ []
+IsSaidBefore grants (b ∷ bs) of_channels passed_over said = IsAssumeText grants of_channels passed_over said

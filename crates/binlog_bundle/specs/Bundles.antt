@@ -8,7 +8,7 @@ use Rattle.txn_journal.specs.declared.lines.Due.TheVariants.{Only}
 use Rattle.txn_journal.specs.declared.lines.Version.TheVariants.{Three}
 use Rattle.binlog_bundle.specs.Lines.{with_line_feed, is_channel, HasNoOwn}
 use Rattle.binlog_bundle.specs.Notes.{name_in, notes_for}
-use Rattle.binlog_bundle.specs.Assumed.{assumed_of, ignored_lines, IsSaidBefore}
+use Rattle.binlog_bundle.specs.Assumed.{assumed_of, IsSaidBefore}
 use Rattle.binlog_bundle.specs.Heads.{IsPlainHead}
 use Rattle.binlog_bundle.specs.Executed.{HadExecuted, AreWithin}
 use Rattle.binlog_bundle.specs.Logs.{Terms, BringsJournal}
@@ -46,10 +46,10 @@ journal_text c = with_line_feed c.own ++ c.journal
 abbrev pub IsStart : List ℕ → BundleValue → Type 0
 IsStart plain start = WritesBundleBy (Only Three) (plain ++ done_line) start
 
--- what is assumed of a channel that has this line in its bundle, by what its server had executed, by its log, and by the
+-- what is assumed of a channel that has this line in its bundle, by what its server had executed, by where its log comes from, and by the
 -- transactions for whose statements an operator answers; the bundle is the one that the head begins
-abbrev pub assumed_for : Terms → BundleValue → List ℕ → List ℕ → Option Gtids → Gtids → List AssumedLine
-assumed_for terms start line log executed statements = assumed_of (name_in line) start.opened executed (terms.origin.is_unchecked (name_in line) log) statements
+abbrev pub assumed_for : Terms → BundleValue → List ℕ → Option Gtids → Gtids → List AssumedLine
+assumed_for terms start line executed statements = assumed_of (name_in line) start.opened executed (terms.origin.is_unchecked (name_in line)) statements
 
 -- the channel has a log, which is the journal, whose entries change the tables of this head; and the line says what was executed
 pub record IsImported (terms : Terms) (plain : List ℕ) (c : ImportedLog) : Type 0 where
@@ -59,7 +59,7 @@ pub record IsImported (terms : Terms) (plain : List ℕ) (c : ImportedLog) : Typ
   pub says : HadExecuted terms.grants c.line c.own c.executed
   pub alone : HasNoOwn c.log
   pub imports : BringsJournal terms start (name_in c.own) c.log c.journal c.varied c.statements
-  pub assumed_are : c.assumed ≡ assumed_for terms start c.own c.log c.executed c.statements
+  pub assumed_are : c.assumed ≡ assumed_for terms start c.own c.executed c.statements
   pub notes_are : c.notes ≡ notes_for start c.own c.varied
 
 -- The two texts have the same lines of channels, but for what was executed. What is behind the line of each channel in the one is in the place
@@ -73,19 +73,20 @@ pub record Corresponds (terms : Terms) (head plain : List ℕ) (channels : List 
 abbrev pub said : List ImportedLog → List (Option Gtids)
 said channels = map (λ c. c.executed) channels
 
--- what is assumed of what the head says is ignored, and of all channels
-abbrev pub all_assumed : Terms → List ImportedLog → List AssumedLine
-all_assumed terms channels = ignored_lines terms.origin.said.ignored ++ flat_map (λ c. c.assumed) channels
+-- what is assumed of all channels
+abbrev pub all_assumed : List ImportedLog → List AssumedLine
+all_assumed channels = flat_map (λ c. c.assumed) channels
 
 -- The text is a bundle's but for what is in the place of each channel's journal, and that there are lines `unsupported ..` and what
--- was executed. Both end in the same last line, and before that the bundle has the lines of what is assumed: of its channels, of foreign keys and
--- of its rows. What is in the place of a journal is between two lines of the bundle's own, so there is one way to read a
+-- was executed. Both end in the same last line, and before that the bundle has the lines of what is assumed: of its channels, and of its head, if
+-- lines of that were passed over. What is in the place of a journal is between two lines of the bundle's own, so there is one way to read a
 -- text so.
 pub record DescribesBundle (terms : Terms) (text : List ℕ) (channels : List ImportedLog) (b : BundleValue) (notes : List ℕ) : Type 0 where
   pub head : List ℕ
   pub plain : List ℕ
+  pub passed_over : Bool
   pub alone : HasNoOwn head
-  pub plain_head : IsPlainHead terms.grants terms.origin.said head plain
+  pub plain_head : IsPlainHead terms.grants terms.origin.columns head plain passed_over
   pub front : List ℕ
   pub written : List ℕ
   pub corresponds : Corresponds terms head plain channels front written
@@ -93,7 +94,7 @@ pub record DescribesBundle (terms : Terms) (text : List ℕ) (channels : List Im
   pub ends : BeginsLast tail
   pub parts : text ≡ front ++ tail
   pub assumes : List ℕ
-  pub says : IsSaidBefore terms.grants tail (all_assumed terms channels) assumes
+  pub says : IsSaidBefore terms.grants tail (all_assumed channels) passed_over assumes
   pub writes : WritesBundle (written ++ (assumes ++ tail)) b
   pub notes_are : notes ≡ flat_map (λ c. c.notes) channels
 

@@ -30,10 +30,10 @@ use Rattle.binlog_bundle.specs.declared.fault.SourceFault.TheVariants as sources
 use Rattle.binlog_bundle.specs.declared.fault.ChannelFault.{ChannelFault}
 use Rattle.binlog_bundle.specs.declared.fault.ChannelFault.TheVariants as channels
 
--- this is the head of the text, with its plain head, and the text from there on
-pub record HasHead (terms : Terms) (text head plain : List ℕ) (rest : List ℕ) : Type 0 where
+-- this is the head of the text, with its plain head, whether lines of it were passed over, and the text from there on
+pub record HasHead (terms : Terms) (text head plain : List ℕ) (passed_over : Bool) (rest : List ℕ) : Type 0 where
   pub cut : IsCut text head rest
-  pub plain_head : IsPlainHead terms.grants terms.origin.said head plain
+  pub plain_head : IsPlainHead terms.grants terms.origin.columns head plain passed_over
 
 -- the reader of bundles has read these bytes
 abbrev pub HasRead : ImportProgress → List ℕ → Type 0
@@ -45,7 +45,7 @@ pub record HasCome (terms : Terms) (start : BundleValue) (text left : List ℕ) 
   pub head : List ℕ
   pub plain : List ℕ
   pub alone : HasNoOwn head
-  pub plain_head : IsPlainHead terms.grants terms.origin.said head plain
+  pub plain_head : IsPlainHead terms.grants terms.origin.columns head plain progress.passed_over
   pub has : IsStart plain start
   pub channels : List ImportedLog
   pub front : List ℕ
@@ -55,7 +55,7 @@ pub record HasCome (terms : Terms) (start : BundleValue) (text left : List ℕ) 
   pub begins : BeginsOwn left
   pub fed : HasRead progress written
   pub says : progress.executed.items ≡ said channels
-  pub assumed : progress.assumed.items ≡ all_assumed terms channels
+  pub assumed : progress.assumed.items ≡ all_assumed channels
   pub noted : progress.notes.items ≡ flat_map (λ c. c.notes) channels
 
 -- ---- a channel that comes
@@ -93,8 +93,9 @@ pub record FeedsChannel (terms : Terms) (start : BundleValue) (line log : List �
   pub fed : IsFedWith (bundle_reading old.reader) middle (with_line_feed own)
   pub brings : FeedsLog terms start (name_in own) log middle (bundle_reading new.reader) varied statements
   pub said : IsSaid old new executed
-  pub assumed : IsAssumed old new (assumed_for terms start own log executed statements)
+  pub assumed : IsAssumed old new (assumed_for terms start own executed statements)
   pub noted : IsNoted old new (notes_for start own varied)
+  pub same_head : new.passed_over ≡ old.passed_over
 
 -- why the channel of this name isn't read, if it has no log for this reason; or out of memory
 abbrev pub IsNotHad : List ℕ → SourceFault → ChannelFault → Type 0
@@ -106,14 +107,14 @@ IsNotHad name _ _ = ⊥
 
 -- It is this fault, and if that names a line, no line of the log maps a table that is none of these; or one does, and it is the first. Or
 -- there is no memory.
-abbrev pub IsJournalFault : List (List ℕ) → List Table → List ℕ → JournalFault → ChannelFault → Type 0
-IsJournalFault ignored tables log fault (channels.Own other) = other ≡ faults.Set Memory
-IsJournalFault ignored tables log fault channels.Unknown = ⊥
-IsJournalFault ignored tables log fault (channels.Log other) = ⊥
-IsJournalFault ignored tables log fault (channels.Logless why) = ⊥
-IsJournalFault ignored tables log fault (channels.Binlog channel other) = ⊥
-IsJournalFault ignored tables log fault (channels.Table at) = IsOfLine fault × HasOther ignored tables at log
-IsJournalFault ignored tables log fault (channels.Journal other) = (other ≡ fault) × (IsOfLine fault → HasNoOther ignored tables log)
+abbrev pub IsJournalFault : List Table → List ℕ → JournalFault → ChannelFault → Type 0
+IsJournalFault tables log fault (channels.Own other) = other ≡ faults.Set Memory
+IsJournalFault tables log fault channels.Unknown = ⊥
+IsJournalFault tables log fault (channels.Log other) = ⊥
+IsJournalFault tables log fault (channels.Logless why) = ⊥
+IsJournalFault tables log fault (channels.Binlog channel other) = ⊥
+IsJournalFault tables log fault (channels.Table at) = IsOfLine fault × HasOther tables at log
+IsJournalFault tables log fault (channels.Journal other) = (other ≡ fault) × (IsOfLine fault → HasNoOther tables log)
 
 -- what is read of the word of what was executed: the set; or nothing, and that is granted
 abbrev pub IsWordRead : Grants → Option (List ℕ) → Option Gtids → Type 0
@@ -158,10 +159,10 @@ abbrev pub CantFeedLog : Terms → BundleValue → List ℕ → List ℕ → Lis
 CantFeedLog terms start name log before (channels.Own fault) = fault ≡ faults.Set Memory
 CantFeedLog terms start name log before channels.Unknown = ⊥
 CantFeedLog terms start name log before (channels.Log fault) = BringsNone terms start name log fault
-CantFeedLog terms start name log before (channels.Table at) = (fault : JournalFault) × IsOfLine fault × CantJoin terms start name log before fault × HasOther terms.origin.said.ignored start.start.schema at log
-CantFeedLog terms start name log before (channels.Journal fault) = CantJoin terms start name log before fault × (IsOfLine fault → HasNoOther terms.origin.said.ignored start.start.schema log)
-CantFeedLog terms start name log before (channels.Logless why) = terms.origin.refuses name log start (sources.Logless why)
-CantFeedLog terms start name log before (channels.Binlog channel fault) = (channel.items ≡ name) × terms.origin.refuses name log start (sources.File fault)
+CantFeedLog terms start name log before (channels.Table at) = (fault : JournalFault) × IsOfLine fault × CantJoin terms start name log before fault × HasOther start.start.schema at log
+CantFeedLog terms start name log before (channels.Journal fault) = CantJoin terms start name log before fault × (IsOfLine fault → HasNoOther start.start.schema log)
+CantFeedLog terms start name log before (channels.Logless why) = terms.origin.refuses name log start.opened (sources.Logless why)
+CantFeedLog terms start name log before (channels.Binlog channel fault) = (channel.items ≡ name) × terms.origin.refuses name log start.opened (sources.File fault)
 
 -- its line is taken before
 pub record CantBring (terms : Terms) (start : BundleValue) (line log before : List ℕ) (fault : ChannelFault) : Type 0 where

@@ -1,14 +1,12 @@
--- The head of a bundle of logs: what comes before its first line of a channel. Lines `unsupported ..`, `collate ..` and `ignore ..` may be among
--- those of the bundle, and its rows are without hidden columns that lines `collate ..` describe.
+-- The head of a bundle of logs: what comes before its first line of a channel. Lines `unsupported ..` and `collate ..` may be among those of the
+-- bundle, and its rows are without hidden columns that the latter describe.
 use Rattle.std.specs.Prelude.{◌≡◌, ℕ, ◌+◌, ◌-◌, ◌^◌, min, nat_le, Bool, true, false, not, ◌&&◌, ◌||◌, List, [], ◌∷◌, ◌++◌, drop, codes, nat_eq, Option, Some, None, if◌then◌else◌}
-use Rattle.std.specs.List.{starts_with, flat_map, AllByRecursion}
+use Rattle.std.specs.List.{starts_with, list_any, flat_map, AllByRecursion}
 use Rattle.txn_journal.specs.Words.{IsOneLine}
 use Rattle.derived_columns.specs.declared.column.DerivedColumn.{DerivedColumn}
 use Rattle.derived_columns.specs.declared.column.DerivedColumn.TheVariants.{Part, Row}
-use Rattle.binlog_bundle.specs.Lines.{with_line_feed, AreLines}
+use Rattle.binlog_bundle.specs.Lines.{with_line_feed}
 use Rattle.binlog_bundle.specs.Collated.{collated, columns_of, weighed_line}
-use Rattle.binlog_bundle.specs.Ignored.{is_ignore, ignored_of, first_ignored}
-use Rattle.binlog_bundle.specs.Said.{Said}
 use Rattle.binlog_bundle.specs.declared.grants.Grants.{Grants}
 use Rattle.binlog_bundle.specs.declared.head.HeadFault.{HeadFault}
 use Rattle.binlog_bundle.specs.declared.head.HeadFault.TheVariants as heads
@@ -29,7 +27,7 @@ is_collate line = starts_with nat_eq line (codes "collate ")
 
 -- it is no line of the bundle
 abbrev pub is_passed : List ℕ → Bool
-is_passed line = is_unsupported line || (is_collate line || is_ignore line)
+is_passed line = is_unsupported line || is_collate line
 
 -- what a line `collate ..` says is taken: that a hidden column holds whole rows only where the opening rows aren't known
 abbrev pub is_taken : Grants → Option DerivedColumn → Bool
@@ -60,18 +58,17 @@ unsupported_in line = if is_unsupported line then drop 12 line else line
 
 -- ---- heads
 
--- Each line of the head is the bundle's or granted, and none is of a table that is ignored. The plain head is the head without the lines that
--- aren't the bundle's, and with hidden values in its rows, those of the columns of the lines `collate ..`.
-pub record IsPlainHead (grants : Grants) (said : Said) (head plain : List ℕ) : Type 0 where
+-- Each line of the head is the bundle's or granted. The plain head is the head without the lines that aren't the bundle's, and with hidden values
+-- in its rows, those of the columns of the lines `collate ..`; whether there are lines `unsupported ..` is kept.
+pub record IsPlainHead (grants : Grants) (columns : List DerivedColumn) (head plain : List ℕ) (passed_over : Bool) : Type 0 where
   pub lines : List (List ℕ)
   pub rest : List ℕ
   pub parts : head ≡ flat_map with_line_feed lines ++ rest
   pub granted : AllByRecursion (IsGranted grants) lines
   pub part : IsOneLine rest
-  pub columns_are : said.columns ≡ columns_of lines
-  pub ignored_are : said.ignored ≡ ignored_of lines
-  pub apart : first_ignored said.ignored lines ≡ None
-  pub plain_is : plain ≡ flat_map (plain_text said.columns) lines ++ rest
+  pub columns_are : columns ≡ columns_of lines
+  pub plain_is : plain ≡ flat_map (plain_text columns) lines ++ rest
+  pub passed : passed_over ≡ list_any is_unsupported lines
 
 -- the first line of the head that is neither the bundle's nor granted says that this is unsupported
 pub record IsUnsupported (grants : Grants) (what head : List ℕ) : Type 0 where
@@ -83,15 +80,6 @@ pub record IsUnsupported (grants : Grants) (what head : List ℕ) : Type 0 where
   pub whole : IsOneLine line
   pub refused : is_granted grants line ≡ false
   pub says : what ≡ unsupported_in line
-
--- by the lines of the head, this is the first of a table that is ignored
-abbrev pub HasIgnoredTable : List ℕ → List ℕ → Type 0
-HasIgnoredTable line head = (lines : List (List ℕ)) → AreLines lines head → first_ignored (ignored_of lines) lines ≡ Some line
-
--- a head is not taken, and this is what isn't
-pub data CantHave (grants : Grants) (what head : List ℕ) : Type 0 where
-  OfLine : IsUnsupported grants what head → CantHave grants what head
-  OfTable : HasIgnoredTable what head → CantHave grants what head
 
 -- why a line is not taken
 abbrev pub IsNotGranted : Grants → List ℕ → HeadFault → Type 0
@@ -111,7 +99,7 @@ IsNoCollate grants line (heads.Unsupported what) = (is_taken grants (collated li
 -- why a head has no plain one
 abbrev pub IsNoPlainHead : Grants → List ℕ → HeadFault → Type 0
 IsNoPlainHead grants head heads.Memory = Unit {0}
-IsNoPlainHead grants head (heads.Unsupported what) = CantHave grants what.items head
+IsNoPlainHead grants head (heads.Unsupported what) = IsUnsupported grants what.items head
 
 -- ---- numbers of lines
 

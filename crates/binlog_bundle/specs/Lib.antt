@@ -6,14 +6,10 @@ pub mod Assumed
 pub mod Names
 pub mod Comparisons
 pub mod Collated
-pub mod Ignored
-pub mod Said
 pub mod Heads
 pub mod Executed
-pub mod LogHeads
 pub mod Logs
 pub mod Files
-pub mod Places
 pub mod Bundles
 pub mod Refused
 pub mod Channels

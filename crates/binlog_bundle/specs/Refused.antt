@@ -17,7 +17,7 @@ use Rattle.txn_journal.specs.declared.fault.JournalFault.TheVariants as faults
 use Rattle.binlog_entries.specs.declared.import.ImportFault.{ImportFault}
 use Rattle.binlog_bundle.specs.Lines.{with_line_feed, is_channel, lines_in, HasNoOwn, BeginsOwn, IsCut}
 use Rattle.binlog_bundle.specs.Tables.{HasOther, HasNoOther}
-use Rattle.binlog_bundle.specs.Heads.{IsPlainHead, CantHave, place_of}
+use Rattle.binlog_bundle.specs.Heads.{IsPlainHead, IsUnsupported, place_of}
 use Rattle.binlog_bundle.specs.Executed.{IsCutLine, HadExecuted, HasLack, IsFullAt}
 use Rattle.binlog_bundle.specs.Assumed.{IsAssumeText, IsSaidBefore}
 use Rattle.binlog_bundle.specs.Bundles.{done_line, ImportedLog, IsStart, Corresponds, said, all_assumed, DescribesBundle}
@@ -124,23 +124,25 @@ pub record IsNoHead (terms : Terms) (fault : JournalFault) (text : List ℕ) : T
   pub rest : List ℕ
   pub cut : IsCut text head rest
   pub plain : List ℕ
-  pub plain_head : IsPlainHead terms.grants terms.origin.said head plain
+  pub passed_over : Bool
+  pub plain_head : IsPlainHead terms.grants terms.origin.columns head plain passed_over
   pub own : JournalFault
   pub stops : IsHeadRefused own (plain ++ end_for rest)
   pub at : fault ≡ fault_in_head plain_head.lines own
 
--- a line of the head isn't granted, and the first such line names this; or this is the first line of a table that is ignored
+-- a line of the head isn't granted, and the first such line names this
 pub record HasUnsupported (terms : Terms) (what text : List ℕ) : Type 0 where
   pub head : List ℕ
   pub rest : List ℕ
   pub cut : IsCut text head rest
-  pub first : CantHave terms.grants what head
+  pub first : IsUnsupported terms.grants what head
 
 -- All but what is left of the text has come: the head and whole channels, and nothing is wrong with them if the journals are in the place
 -- of the logs.
 pub record HasTaken (terms : Terms) (head plain front written left text : List ℕ) : Type 0 where
   pub alone : HasNoOwn head
-  pub plain_head : IsPlainHead terms.grants terms.origin.said head plain
+  pub passed_over : Bool
+  pub plain_head : IsPlainHead terms.grants terms.origin.columns head plain passed_over
   pub channels : List ImportedLog
   pub corresponds : Corresponds terms head plain channels front written
   pub parts : text ≡ front ++ left
@@ -179,7 +181,7 @@ pub record IsNoLast (terms : Terms) (fault : JournalFault) (line : ℕ) (text : 
   pub after : List ℕ
   pub come : HasTaken terms head plain front written (done_line ++ after) text
   pub assumes : List ℕ
-  pub says : IsAssumeText terms.grants (all_assumed terms come.channels) assumes
+  pub says : IsAssumeText terms.grants (all_assumed come.channels) come.passed_over assumes
   pub stops : StopsAt fault (written ++ (assumes ++ done_line))
   pub number : line ≡ next_number (lines_in front)
 
@@ -195,7 +197,7 @@ pub record IsNoEnd (terms : Terms) (fault : JournalFault) (line : ℕ) (text : L
   pub come : HasTaken terms head plain front written (last ++ behind) text
   pub ends : IsLast last behind
   pub assumes : List ℕ
-  pub says : IsSaidBefore terms.grants (last ++ behind) (all_assumed terms come.channels) assumes
+  pub says : IsSaidBefore terms.grants (last ++ behind) (all_assumed come.channels) come.passed_over assumes
   pub taken : IsTaken (written ++ (assumes ++ last))
   pub stops : IsRefused fault (written ++ ((assumes ++ last) ++ behind))
   pub number : line ≡ next_number (lines_in (front ++ last))
@@ -268,7 +270,7 @@ pub record IsLogless (terms : Terms) (fault : SourceFault) (line : ℕ) (name te
   pub start : BundleValue
   pub has : HasLog terms line text log written channel own executed start
   pub named : name ≡ name_in own
-  pub none : terms.origin.refuses name log start fault
+  pub none : terms.origin.refuses name log start.opened fault
 
 -- The same, but that its log describes a journal that is none of a bundle's there; these are the tables of the head.
 pub record CantFollow (terms : Terms) (fault : JournalFault) (line : ℕ) (text : List ℕ) (start : BundleValue) (log : List ℕ) : Type 0 where
@@ -290,14 +292,14 @@ pub record HasTableFault (terms : Terms) (at line : ℕ) (text : List ℕ) : Typ
   pub fault : JournalFault
   pub of_line : IsOfLine fault
   pub follow : CantFollow terms fault line text start log
-  pub other : HasOther terms.origin.said.ignored start.start.schema at log
+  pub other : HasOther start.start.schema at log
 
 -- a journal is refused; if it is for one of its lines, no line of the log maps another table
 pub record HasJournalFault (terms : Terms) (fault : JournalFault) (line : ℕ) (text : List ℕ) : Type 0 where
   pub start : BundleValue
   pub log : List ℕ
   pub follow : CantFollow terms fault line text start log
-  pub no_other : IsOfLine fault → HasNoOther terms.origin.said.ignored start.start.schema log
+  pub no_other : IsOfLine fault → HasNoOther start.start.schema log
 
 -- what is assumed of a channel has the part of the opening set that wasn't executed, which has too many intervals
 pub record HasFullPart (terms : Terms) (fault : SetFault) (text : List ℕ) : Type 0 where

@@ -5,22 +5,22 @@ ghost use Rattle.std.specs.FinSet as set;
 ghost use Rattle.gtid_set.specs.Full.{IsFaultOf};
 ghost use Rattle.gtid_set.specs.Runs.{canonical};
 ghost use Rattle.binlog_bundle.specs.Lines.{with_line_feed};
-ghost use Rattle.binlog_bundle.specs.Assumed.{executed_line, checksums_line, opening_line, statements_line, opening_lines, checksums_lines, executed_lines, statements_lines, ignored_line, ignored_lines, assumed_of, references_text, rows_text, text_of, IsAssumeText, IsSaidBefore, IsPartFault};
+ghost use Rattle.binlog_bundle.specs.Assumed.{executed_line, checksums_line, opening_line, statements_line, opening_lines, checksums_lines, executed_lines, statements_lines, assumed_of, references_text, rows_text, text_of, IsAssumeText, IsSaidBefore, IsPartFault};
 
 use crate::grants::Grants;
 use gtid_set::{GtidSet, SetFault};
 use row_images::ByteString;
 use std::alloc::{AllocError, Global};
 
-/// A line of what is assumed of a channel, or of what is ignored. Lines come in the order of a bundle's: by their kinds, and within a kind by their bytes.
+/// A line of what is assumed of a channel. Lines come in the order of a bundle's: by their kinds, and within a kind by their bytes.
 #[derive(PartialEq, Eq, PartialOrd, Ord, Drop)]
 pub struct AssumedLine {
-    /// The place of its kind: 0 for `executed`, 1 for `checksums`, 2 for `opening`, 3 for `statements`, 4 for `ignored`.
+    /// The place of its kind: 0 for `executed`, 1 for `checksums`, 2 for `opening`, 3 for `statements`.
     pub rank: u32,
     pub text: ByteString,
 }
 
-/// The line of this kind, whose last word is the channel, or what is ignored.
+/// The line of this kind, whose last word is the channel.
 fn channel_line(
     alloc: Global,
     rank: u32,
@@ -210,24 +210,6 @@ pub fn assume_channel(
     Ok(())
 }
 
-/// The line that says that changes of this table, or of all tables of this database, were left out.
-fn ignored_line(alloc: Global, name: &[u8]) -> Result<AssumedLine, AllocError>
-    ensures { IfOk result (λ line. line ≡ ignored_line name.now) }
-{
-    channel_line(alloc, 4, b"assume ignored ", name)
-}
-
-/// The lines that say so of these names, in their order.
-pub fn ignored_lines(alloc: Global, names: &[ByteString]) -> Result<Vec<AssumedLine>, AllocError>
-    ensures { IfOk result (λ lines. lines.items ≡ ignored_lines names.now) }
-{
-    let mut lines = Vec::new(alloc);
-    for name in names {
-        lines.push(ignored_line(alloc, name.as_slice())?)?;
-    }
-    Ok(lines)
-}
-
 /// Puts a line after a text.
 fn put_line(text: &mut Vec<u8>, line: &[u8]) -> Result<(), AllocError>
     ensures { OnOk result (text.new.items ≡ text.old.items ++ with_line_feed line.now) }
@@ -247,11 +229,11 @@ fn put_lines(text: &mut Vec<u8>, lines: &[AssumedLine]) -> Result<(), AllocError
     Ok(())
 }
 
-/// Puts the line that says that references aren't looked at, if that is granted.
-fn put_references(text: &mut Vec<u8>, grants: Grants) -> Result<(), AllocError>
-    ensures { OnOk result (text.new.items ≡ text.old.items ++ references_text grants) }
+/// Puts the line that says that references aren't looked at, if the head's lines of foreign keys were passed over.
+fn put_references(text: &mut Vec<u8>, passed_over: bool) -> Result<(), AllocError>
+    ensures { OnOk result (text.new.items ≡ text.old.items ++ references_text passed_over) }
 {
-    if grants.without_foreign_keys {
+    if passed_over {
         put_line(text, b"assume references")?;
     }
     Ok(())
@@ -272,14 +254,15 @@ fn assume_text(
     alloc: Global,
     grants: Grants,
     lines: Vec<AssumedLine>,
+    passed_over: bool,
 ) -> Result<Vec<u8>, AllocError>
-    ensures { IfOk result (λ text. IsAssumeText grants lines.items text.items) }
+    ensures { IfOk result (λ text. IsAssumeText grants lines.items passed_over text.items) }
 {
     let mut lines = lines;
     lines.sort_unstable();
     let mut text = Vec::new(alloc);
     put_lines(&mut text, &lines)?;
-    put_references(&mut text, grants)?;
+    put_references(&mut text, passed_over)?;
     put_rows(&mut text, grants)?;
     Ok(text)
 }
@@ -290,11 +273,12 @@ pub fn said_before(
     grants: Grants,
     left: &[u8],
     lines: Vec<AssumedLine>,
+    passed_over: bool,
 ) -> Result<Vec<u8>, AllocError>
-    ensures { IfOk result (λ text. IsSaidBefore grants left.now lines.items text.items) }
+    ensures { IfOk result (λ text. IsSaidBefore grants left.now lines.items passed_over text.items) }
 {
     if left.is_empty() {
         return Ok(Vec::new(alloc));
     }
-    assume_text(alloc, grants, lines)
+    assume_text(alloc, grants, lines, passed_over)
 }

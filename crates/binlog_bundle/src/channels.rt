@@ -22,7 +22,6 @@ use crate::reading::{add, add_line};
 use crate::tables::other_table;
 use binlog_entries::{ImportFault, ImportedJournal, ReadFault, cut_line, journal_of};
 use gtid_set::{GtidSet, SetFault};
-use row_images::ByteString;
 use rows::Schema;
 use std::alloc::{AllocError, Global};
 use txn_journal::{Bundle, BundleReader, JournalFault};
@@ -34,24 +33,20 @@ pub struct ImportProgress {
     pub reader: BundleReader,
     /// What the server of each channel had executed, if its line says so.
     pub executed: Vec<Option<GtidSet>>,
-    /// The lines that say what is assumed of what is ignored, and of the channels.
+    /// The lines that say what is assumed of the channels.
     pub assumed: Vec<AssumedLine>,
+    /// Whether lines of the head were passed over.
+    pub passed_over: bool,
     pub notes: Vec<u8>,
 }
 
 /// Why the journal that a log describes is not taken: a line of the log that maps a table which the schema has not is named, if there is one.
-fn journal_fault(
-    alloc: Global,
-    ignored: &[ByteString],
-    schema: &Schema,
-    log: &[u8],
-    fault: JournalFault,
-) -> ChannelFault
-    ensures { IsJournalFault ignored.now schema.now log.now fault result }
+fn journal_fault(alloc: Global, schema: &Schema, log: &[u8], fault: JournalFault) -> ChannelFault
+    ensures { IsJournalFault schema.now log.now fault result }
 {
     match fault {
         JournalFault::Line { line: _, cause: _ } => {
-            match other_table(alloc, ignored, schema.tables(), log) {
+            match other_table(alloc, schema.tables(), log) {
                 Ok(Some(at)) => ChannelFault::Table(at),
                 Ok(None) => ChannelFault::Journal(fault),
                 Err(AllocError) => ChannelFault::Own(JournalFault::Set(SetFault::Memory)),
@@ -125,10 +120,10 @@ fn read_journal<L: Logs>(
 ) -> Result<LogJournal, ChannelFault>
     ensures found { IfOk result (λ j. BringsJournal (terms_of grants (L.origin logs.now)) start.now name.now log.now
         j.journal.text.items j.journal.varied.items j.statements) }
-    ensures unchecked { IfOk result (λ j. j.is_unchecked ≡ (L.origin logs.now).is_unchecked name.now log.now) }
+    ensures unchecked { IfOk result (λ j. j.is_unchecked ≡ (L.origin logs.now).is_unchecked name.now) }
     ensures refused { (before : List ℕ) → IfErr result (CantFeedLog (terms_of grants (L.origin logs.now)) start.now name.now log.now before) }
 {
-    let read = match logs.read(alloc, name, start, log) {
+    let read = match logs.read(alloc, name, start.opening_set(), log) {
         Ok(read) => read,
         Err(fault) => return Err(source_fault(alloc, name, fault)),
     };
@@ -149,7 +144,7 @@ fn take_log<L: Logs>(
     log: &[u8],
 ) -> Result<LogJournal, ChannelFault>
     ensures fed { IfOk result (λ j. FeedsLog (terms_of grants (L.origin logs.now)) start.now name.now log.now (bundle_reading reader.old) (bundle_reading reader.new) j.journal.varied.items j.statements) }
-    ensures unchecked { IfOk result (λ j. j.is_unchecked ≡ (L.origin logs.now).is_unchecked name.now log.now) }
+    ensures unchecked { IfOk result (λ j. j.is_unchecked ≡ (L.origin logs.now).is_unchecked name.now) }
     ensures refused { (before : List ℕ) → IsFed (bundle_reading reader.old) before → IfErr result (CantFeedLog (terms_of grants (L.origin logs.now)) start.now name.now log.now before) }
 {
     let read = match read_journal(alloc, grants, logs, start, name, log) {
@@ -158,13 +153,7 @@ fn take_log<L: Logs>(
     };
     match add(alloc, reader, &read.journal.text) {
         Ok(()) => Ok(read),
-        Err(fault) => Err(journal_fault(
-            alloc,
-            logs.ignored(),
-            start.schema(),
-            log,
-            fault,
-        )),
+        Err(fault) => Err(journal_fault(alloc, start.schema(), log, fault)),
     }
 }
 
@@ -200,6 +189,7 @@ fn keep_channel(
     ensures said { OnOk result (IsSaid progress.old progress.new executed) }
     ensures assumed { OnOk result (IsAssumed progress.old progress.new (assumed_of (name_in own.now) start.now.opened executed read.now.is_unchecked read.now.statements)) }
     ensures noted { OnOk result (IsNoted progress.old progress.new (notes_for start.now own.now read.now.journal.varied.items)) }
+    ensures head { progress.new.passed_over ≡ progress.old.passed_over }
     ensures fault { IfErr result (λ fault. IsPartFault fault start.now.opened executed) }
 {
     let channel = name_in(own);

@@ -8,7 +8,7 @@ use memchr::memchr;
 use row_images::{count, cut};
 
 /// What stands before the first of this byte, and what stands behind it.
-pub fn cut_at(text: &[u8], byte: u8) -> (&[u8], Option<&[u8]>)
+fn cut_at(text: &[u8], byte: u8) -> (&[u8], Option<&[u8]>)
     ensures front { result.0.now ≡ front_of byte text.now }
     ensures behind { option_map (λ b. b.now) result.1 ≡ behind_of byte text.now }
 {

@@ -21,9 +21,6 @@ pub enum Logless {
     /// In the entry of this GTID a value of this column of this table has no hidden value, as bytes that are no text of its character set, or is
     /// missing.
     Weights(Gtid, Name, u32),
-    /// A rows event whose head is at this line of the log, counted from the next one of its channel, is of a server that doesn't log what it
-    /// changes by foreign keys, and by one of the head it does change rows.
-    Cascade(u64),
 }
 
 /// Why a channel has no log.

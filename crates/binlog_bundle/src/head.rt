@@ -1,21 +1,16 @@
-//! The head of a bundle of logs: lines of the bundle, lines that name what it can't hold, lines that say what hidden columns hold, and lines that
-//! say what is ignored.
-ghost use Rattle.std.specs.Prelude.{◌≡◌, ◌++◌, ◌||◌, ℕ, Bool, List, IsTrue, IfOk, IfErr, OnOk, None, true, false};
+//! The head of a bundle of logs: lines of the bundle, lines that name what it can't hold, and lines that say what hidden columns hold.
+ghost use Rattle.std.specs.Prelude.{◌≡◌, ◌++◌, ◌||◌, ℕ, Bool, List, IsTrue, IfOk, IfErr, OnOk, true, false};
 ghost use Rattle.binlog_bundle.specs.Lines.{with_line_feed, AreLines};
 ghost use Rattle.binlog_bundle.specs.Collated.{collated, weighed_line, columns_of};
 ghost use Rattle.binlog_bundle.specs.Heads.{is_unsupported, is_collate, is_passed, is_taken, is_granted, is_granted_key, plain_text, place_of, IsPlainHead, IsNoPlainHead, IsNotGranted, IsNoGrantedKey, IsNoCollate};
-ghost use Rattle.binlog_bundle.specs.Ignored.{is_ignore, ignored_of, first_ignored};
-ghost use Rattle.binlog_bundle.specs.Said.{said_by};
 ghost use Rattle.binlog_bundle.specs.Refused.{fault_in_head};
 ghost use Rattle.binlog_bundle.specs.declared.head.HeadFault.TheVariants as heads;
 
 use crate::collate_lines::{collated, collated_columns, put_weighed};
 use crate::grants::Grants;
-use crate::ignored::{first_ignored, ignored_names};
 use crate::lines::strip;
 use binlog_entries::cut_line;
 use derived_columns::{Derivation, DerivedColumn};
-use row_images::ByteString;
 use std::alloc::{AllocError, Global};
 use txn_journal::JournalFault;
 
@@ -23,21 +18,22 @@ use txn_journal::JournalFault;
 #[derive(Drop)]
 pub struct PlainHead {
     pub text: Vec<u8>,
+    /// Whether there was a line `unsupported ..`: each was passed over.
+    pub passed_over: bool,
 }
 
-/// A head as that of a bundle, what its hidden columns hold, and the names of what is ignored.
+/// A head as that of a bundle, and what its hidden columns hold.
 #[derive(Drop)]
 pub struct WeighedHead {
     pub plain: PlainHead,
     pub derivation: Derivation,
-    pub ignored: Vec<ByteString>,
 }
 
 /// Why a head is not taken.
 #[derive(Drop)]
 pub enum HeadFault {
     Memory,
-    /// What the first line that isn't granted says is unsupported, or the first line of a table that is ignored.
+    /// What the first line that isn't granted says is unsupported.
     Unsupported(Vec<u8>),
 }
 
@@ -63,18 +59,11 @@ fn is_collate(line: &[u8]) -> bool
     line.starts_with(b"collate ")
 }
 
-/// Whether a line says what is ignored.
-fn is_ignore(line: &[u8]) -> bool
-    ensures { result ≡ is_ignore line.now }
-{
-    line.starts_with(b"ignore ")
-}
-
 /// Whether a line is no line of the bundle.
 fn is_passed(line: &[u8]) -> bool
     ensures { result ≡ is_passed line.now }
 {
-    is_unsupported(line) || is_collate(line) || is_ignore(line)
+    is_unsupported(line) || is_collate(line)
 }
 
 /// Whether what is unsupported is a foreign key, and that is granted.
@@ -115,7 +104,8 @@ impl PlainHead {
         derivation: &Derivation,
         line: &[u8],
     ) -> Result<(), AllocError>
-        ensures { OnOk result (self.new.text.items ≡ self.old.text.items ++ with_line_feed (weighed_line derivation.now line.now)) }
+        ensures text { OnOk result (self.new.text.items ≡ self.old.text.items ++ with_line_feed (weighed_line derivation.now line.now)) }
+        ensures passed { self.new.passed_over ≡ self.old.passed_over }
     {
         put_weighed(alloc, &mut self.text, derivation, line)?;
         self.text.push(b'\n')?;
@@ -126,11 +116,13 @@ impl PlainHead {
     fn pass_over(&mut self, alloc: Global, grants: Grants, what: &[u8]) -> Result<(), HeadFault>
         ensures granted { OnOk result (is_granted_key grants what.now ≡ true) }
         ensures text { self.new.text.items ≡ self.old.text.items }
+        ensures passed { OnOk result (self.new.passed_over ≡ true) }
         ensures refused { IfErr result (λ fault. IsNoGrantedKey grants what.now fault) }
     {
         if !is_granted_key(grants, what) {
             return Err(HeadFault::Unsupported(what.to_vec(alloc)?));
         }
+        self.passed_over = true;
         Ok(())
     }
 
@@ -145,13 +137,11 @@ impl PlainHead {
         requires { is_unsupported line.now ≡ false }
         ensures granted { OnOk result (is_granted grants line.now ≡ true) }
         ensures text { OnOk result (self.new.text.items ≡ self.old.text.items ++ plain_text derivation.now line.now) }
+        ensures passed { self.new.passed_over ≡ self.old.passed_over }
         ensures refused { IfErr result (IsNotGranted grants line.now) }
     {
         if is_collate(line) {
             return take_collate(alloc, grants, line);
-        }
-        if is_ignore(line) {
-            return Ok(());
         }
         Ok(self.take_plain(alloc, derivation, line)?)
     }
@@ -166,6 +156,7 @@ impl PlainHead {
     ) -> Result<(), HeadFault>
         ensures granted { OnOk result (is_granted grants line.now ≡ true) }
         ensures text { OnOk result (self.new.text.items ≡ self.old.text.items ++ plain_text derivation.now line.now) }
+        ensures passed { OnOk result (self.new.passed_over ≡ (self.old.passed_over || is_unsupported line.now)) }
         ensures refused { IfErr result (IsNotGranted grants line.now) }
     {
         match strip(line, b"unsupported ") {
@@ -180,17 +171,15 @@ fn plain_head(
     alloc: Global,
     grants: Grants,
     derivation: &Derivation,
-    ignored: &[ByteString],
     head: &[u8],
 ) -> Result<PlainHead, HeadFault>
-    requires columns { (lines : List (List ℕ)) → AreLines lines head.now → derivation.now ≡ columns_of lines }
-    requires ignored { (lines : List (List ℕ)) → AreLines lines head.now → ignored.now ≡ ignored_of lines }
-    requires apart { (lines : List (List ℕ)) → AreLines lines head.now → first_ignored ignored.now lines ≡ None }
-    ensures found { IfOk result (λ plain. IsPlainHead grants (said_by derivation.now ignored.now) head.now plain.text.items) }
+    requires { (lines : List (List ℕ)) → AreLines lines head.now → derivation.now ≡ columns_of lines }
+    ensures found { IfOk result (λ plain. IsPlainHead grants derivation.now head.now plain.text.items plain.passed_over) }
     ensures refused { IfErr result (λ fault. IsNoPlainHead grants head.now fault) }
 {
     let mut plain = PlainHead {
         text: Vec::new(alloc),
+        passed_over: false,
     };
     let mut left = head;
     while let Some((line, after)) = cut_line(left) {
@@ -203,23 +192,15 @@ fn plain_head(
     Ok(plain)
 }
 
-/// The head as that of a bundle, and what its lines `collate ..` and `ignore ..` say.
+/// The head as that of a bundle, and what its lines `collate ..` say.
 pub fn weighed_head(alloc: Global, grants: Grants, head: &[u8]) -> Result<WeighedHead, HeadFault>
-    ensures found { IfOk result (λ h. IsPlainHead grants (said_by h.derivation h.ignored.items) head.now h.plain.text.items) }
+    ensures found { IfOk result (λ h. IsPlainHead grants h.derivation head.now h.plain.text.items h.plain.passed_over) }
     ensures refused { IfErr result (λ fault. IsNoPlainHead grants head.now fault) }
 {
     let columns = collated_columns(alloc, head)?;
     let derivation = Derivation::of(alloc, columns)?;
-    let ignored = ignored_names(alloc, head)?;
-    if let Some(line) = first_ignored(&ignored, head) {
-        return Err(HeadFault::Unsupported(line.to_vec(alloc)?));
-    }
-    match plain_head(alloc, grants, &derivation, &ignored, head) {
-        Ok(plain) => Ok(WeighedHead {
-            plain,
-            derivation,
-            ignored,
-        }),
+    match plain_head(alloc, grants, &derivation, head) {
+        Ok(plain) => Ok(WeighedHead { plain, derivation }),
         Err(fault) => Err(fault),
     }
 }

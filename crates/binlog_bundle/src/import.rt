@@ -8,7 +8,7 @@ ghost use Rattle.binlog_bundle.specs.Logs.{terms_of, texts};
 ghost use Rattle.binlog_bundle.specs.Refused.{end_for, IsNoBundle};
 ghost use Rattle.binlog_bundle.specs.Channels.{HasCome, HasHead, IsDescribed};
 
-use crate::assumed::{ignored_lines, said_before};
+use crate::assumed::said_before;
 use crate::channels::{ImportProgress, take_channels};
 use crate::executed::first_lack;
 use crate::fault::{BundleFault, fault_at_line};
@@ -75,10 +75,11 @@ fn end<L: Logs>(
         reader,
         executed,
         assumed,
+        passed_over,
         notes,
     } = progress;
     let mut reader = reader;
-    let Ok(said) = said_before(alloc, grants, left, assumed) else {
+    let Ok(said) = said_before(alloc, grants, left, assumed, passed_over) else {
         return Err(BundleFault::Own(JournalFault::Set(SetFault::Memory)));
     };
     let (line, behind) = split_line(left);
@@ -103,19 +104,17 @@ fn import_channels<L: Logs>(
     text: &[u8],
     rest: &[u8],
 ) -> Result<ImportedBundle, BundleFault>
-    requires head { HasHead (terms_of grants (L.origin logs.now)) text.now head.now plain.text.items rest.now }
+    requires head { HasHead (terms_of grants (L.origin logs.now)) text.now head.now plain.text.items plain.passed_over rest.now }
     requires begins { IsStart plain.text.items start.now }
     requires more { rest.now ≢ [] }
     ensures found { IfOk result (λ i. ImportsBundle (terms_of grants (L.origin logs.now)) text.now i.bundle i.notes.items) }
     ensures refused { IfErr result (λ fault. IsNoBundle (terms_of grants (L.origin logs.now)) fault text.now) }
 {
-    let Ok(assumed) = ignored_lines(alloc, logs.ignored()) else {
-        return Err(BundleFault::Own(JournalFault::Set(SetFault::Memory)));
-    };
     let mut progress = ImportProgress {
         reader: BundleReader::start(alloc),
         executed: Vec::new(alloc),
-        assumed,
+        assumed: Vec::new(alloc),
+        passed_over: plain.passed_over,
         notes: Vec::new(alloc),
     };
     match add(alloc, &mut progress.reader, &plain.text) {
@@ -145,7 +144,7 @@ fn import_plain<L: Logs>(
     text: &[u8],
     rest: &[u8],
 ) -> Result<ImportedBundle, BundleFault>
-    requires { HasHead (terms_of grants (L.origin logs.now)) text.now head.now plain.text.items rest.now }
+    requires { HasHead (terms_of grants (L.origin logs.now)) text.now head.now plain.text.items plain.passed_over rest.now }
     ensures found { IfOk result (λ i. ImportsBundle (terms_of grants (L.origin logs.now)) text.now i.bundle i.notes.items) }
     ensures refused { IfErr result (λ fault. IsNoBundle (terms_of grants (L.origin logs.now)) fault text.now) }
 {
@@ -177,15 +176,10 @@ pub fn import_bundle_from<L: Logs>(
 {
     let (head, rest) = cut_own(text);
     match weighed_head(alloc, grants, head) {
-        Ok(WeighedHead {
-            plain,
-            derivation,
-            ignored,
-        }) => {
+        Ok(WeighedHead { plain, derivation }) => {
             let logs = WeighedLogs {
                 logs,
                 derivation: &derivation,
-                ignored: &ignored,
             };
             import_plain(alloc, grants, &logs, head, plain, text, rest)
         }
@@ -218,17 +212,8 @@ pub fn import_files(
     text: &[u8],
 ) -> Result<ImportedBundle, BundleFault>
     ensures found { IfOk result (λ i.
-        ImportsLogs grants (files grants accepted.now channels.now) text.now i.bundle i.notes.items) }
-    ensures refused { IfErr result (λ fault. IsNoImportOfLogs grants (files grants accepted.now channels.now) fault text.now) }
+        ImportsLogs grants (files accepted.now channels.now) text.now i.bundle i.notes.items) }
+    ensures refused { IfErr result (λ fault. IsNoImportOfLogs grants (files accepted.now channels.now) fault text.now) }
 {
-    import_bundle_from(
-        alloc,
-        grants,
-        &FileLogs {
-            grants,
-            channels,
-            accepted,
-        },
-        text,
-    )
+    import_bundle_from(alloc, grants, &FileLogs { channels, accepted }, text)
 }

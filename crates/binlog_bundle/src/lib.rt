@@ -5,19 +5,16 @@
 //! more. The line of a channel, `channel <name>[ preserve] executed <set>`, says what its server had executed when the logs were taken. Lines
 //! `unsupported <what> <where>` before the first channel name what a bundle can't hold, such as a foreign key. Lines `collate <table> ..`
 //! there say what hidden columns hold: what the server compares of a column in a key (`comparison_of`: weights of texts, prefixes, numbers), or
-//! the text of whole rows, for a table without a key, where the opening rows aren't known. Lines `ignore <name>` there name tables and databases whose changes are left
-//! out of the logs' entries (`kept_entries`), which the bundle then assumes. The text is cut at the lines of the bundle's own (`channel ..`, `done`), which no line of a log is (`logs_are_not_cut`). Each log is written as a journal by
+//! the text of whole rows, for a table without a key, where the opening rows aren't known. The text is cut at the lines of the bundle's own (`channel ..`, `done`), which no line of a log is (`logs_are_not_cut`). Each log is written as a journal by
 //! `binlog_entries::journal_of`, and the reader of bundles is fed with the lines of the bundle, as they are without these two, and
 //! with the text of each journal in its place. Rows of the head and entries of logs get their hidden values on the way (`weighed`); a log that
 //! says that such a column is compared otherwise is refused, and one with a value that has no hidden value.
 //!
 //! What a bundle would hide is refused: a line `unsupported ..`; a channel's line that doesn't say what was executed; and a channel whose
 //! server had executed anything that is neither in the opening set, nor in the set that was executed before its log, nor an entry of it.
-//! A log is refused, too, whose server deletes or changes rows by a foreign key that cascades, and doesn't log that (`hidden_cascade`; files:
-//! `key_refusal` of binlog_files), and one whose files show a foreign key where the head has none.
 //! An operator may grant foreign keys, that what was executed isn't known, and keys that aren't compared by bytes (`Grants`). The first two the
 //! bundle then says in its `assume` lines, and also what of the opening set a channel's server hadn't executed, that damage in its log couldn't
-//! be seen, for the statements of which transactions an operator answers (`accepted_in`), and what is ignored; of keys there is a note.
+//! be seen, and for the statements of which transactions an operator answers (`accepted_in`); of keys there is a note.
 //!
 //! What a contract sees: how a text is imported (`Terms`: what is granted, and where logs come from, `Origin`), a text, the bundle that it
 //! describes and the notes (`ImportsLogs`): head and lines of channels are the same but for what was added, the journal of each channel
@@ -25,12 +22,9 @@
 //! refusal is one of a log, of a line of the bundle's own, of a key, of a line `unsupported ..` or of what was executed, with its line or
 //! channel (`IsNoImportOfLogs`); lines count over the whole text.
 //!
-//! `placed_text` is the text of a bundle with the place of each entry in the files of its channel before that of the entry (`IsPlacedText`).
-//!
 //! Not proved: that what mysqlbinlog prints is what the server logged, that the sets and the lines `unsupported ..` are what the server
 //! answered, and that each text which means a bundle is accepted: lines elsewhere than mysqlbinlog puts them are refused. Cost, from the
-//! code: one pass over the input, another over a text for its checksums (and one for cascades, where a foreign key has one), one over the files for the
-//! places, and one over the GTIDs of each journal to make their set; an opening row is read twice.
+//! code: one pass over the input, and one over the GTIDs of each journal to make their set; an opening row is read twice.
 #![tactic(auto)]
 
 mod accepted;
@@ -43,15 +37,12 @@ mod fault;
 mod files;
 mod grants;
 mod head;
-mod ignored;
 mod import;
 mod laws;
 mod lines;
-mod log_heads;
 mod logs;
 mod names;
 mod notes;
-mod places;
 mod reading;
 mod tables;
 mod weighed;
@@ -62,4 +53,3 @@ pub use grants::Grants;
 pub use import::{ImportedBundle, import_bundle, import_bundle_from, import_files};
 pub use laws::logs_are_not_cut;
 pub use logs::{Logs, ReadChannel, TextLogs};
-pub use places::placed_text;

@@ -2,13 +2,10 @@
 ghost use Rattle.std.specs.Prelude.{◌≡◌, IfOk, IfErr};
 ghost use Rattle.binlog_bundle.specs.Logs.{Origin, texts};
 
-use crate::fault::{Logless, SourceFault};
-use crate::log_heads::{hidden_cascade, is_unchecked_text};
+use crate::fault::SourceFault;
 use binlog_entries::{LoggedTransactions, read_log};
 use gtid_set::GtidSet;
-use row_images::ByteString;
 use std::alloc::Global;
-use txn_journal::Bundle;
 
 /// The log of a channel.
 #[derive(Drop)]
@@ -27,23 +24,18 @@ pub trait Logs {
     fn accepted(&self) -> &GtidSet
         ensures { result.now ≡ (origin self.now).accepted };
 
-    /// The names of tables and databases whose changes are ignored.
-    fn ignored(&self) -> &[ByteString]
-        ensures { result.now ≡ (origin self.now).said.ignored };
-
-    /// The log of the channel of this name, with this text behind its line, where the head begins this bundle. What comes before the log is in
-    /// the opening set.
+    /// The log of the channel of this name, with this text behind its line. What comes before the log is in the opening set.
     fn read(
         &self,
         alloc: Global,
         name: &[u8],
-        head: &Bundle,
+        opening: &GtidSet,
         text: &[u8],
     ) -> Result<ReadChannel, SourceFault>
         ensures found { IfOk result (λ r.
-            (origin self.now).is_log name.now text.now head.now r.log.previous r.log.entries.items r.log.varied.items) }
-        ensures unchecked { IfOk result (λ r. r.is_unchecked ≡ (origin self.now).is_unchecked name.now text.now) }
-        ensures refused { IfErr result ((origin self.now).refuses name.now text.now head.now) };
+            (origin self.now).is_log name.now text.now opening.now r.log.previous r.log.entries.items r.log.varied.items) }
+        ensures unchecked { IfOk result (λ r. r.is_unchecked ≡ (origin self.now).is_unchecked name.now) }
+        ensures refused { IfErr result ((origin self.now).refuses name.now text.now opening.now) };
 }
 
 /// The text behind the line of a channel is that of its log, as mysqlbinlog prints it.
@@ -60,27 +52,19 @@ impl<'a> Logs for TextLogs<'a> {
         self.accepted
     }
 
-    fn ignored(&self) -> &[ByteString] {
-        &[]
-    }
-
     fn read(
         &self,
         alloc: Global,
         _name: &[u8],
-        head: &Bundle,
+        opening: &GtidSet,
         text: &[u8],
     ) -> Result<ReadChannel, SourceFault> {
-        let log = match read_log(alloc, head.opening_set(), text) {
-            Ok(log) => log,
-            Err(fault) => return Err(SourceFault::Text(fault)),
-        };
-        match hidden_cascade(head.references(), text) {
-            None => Ok(ReadChannel {
+        match read_log(alloc, opening, text) {
+            Ok(log) => Ok(ReadChannel {
                 log,
-                is_unchecked: is_unchecked_text(text),
+                is_unchecked: false,
             }),
-            Some(line) => Err(SourceFault::Logless(Logless::Cascade(line))),
+            Err(fault) => Err(SourceFault::Text(fault)),
         }
     }
 }

@@ -1,12 +1,10 @@
-//! Logs without changes that are ignored, and with hidden values.
+//! Logs with hidden values.
 ghost use Rattle.std.specs.Prelude.{◌≡◌, option_map, IfOk, IfErr};
 ghost use Rattle.std.specs.List.{list_any};
 ghost use Rattle.binlog_bundle.specs.Others.{is_collation, is_against, is_other, other_part, first_other};
-ghost use Rattle.binlog_bundle.specs.Said.{said_by};
 ghost use Rattle.binlog_bundle.specs.Weighed.{weighed, unweighed, IsOtherCollation, IsWeighedLog, IsUnweighedLog};
 
 use crate::fault::{Logless, SourceFault};
-use crate::ignored::kept_entries;
 use crate::logs::{Logs, ReadChannel};
 use binlog_entries::ReadFault;
 use collations::Collation;
@@ -15,16 +13,13 @@ use derived_columns::{
 };
 use gtid_set::{GtidSet, SetFault};
 use log_transactions::{LoggedTransactions, Varied};
-use row_images::ByteString;
 use std::alloc::Global;
-use txn_journal::Bundle;
 
-/// Logs whose entries lose the changes of tables of these names or of databases of these names, and get the hidden values of these columns.
+/// Logs whose entries get the hidden values of these columns.
 #[derive(Drop)]
 pub struct WeighedLogs<'a, L: Logs> {
     pub logs: &'a L,
     pub derivation: &'a Derivation,
-    pub ignored: &'a [ByteString],
 }
 
 fn is_collation(collation: Collation, other: Option<Collation>) -> bool
@@ -112,15 +107,14 @@ fn unweighed(fault: DerivationFault) -> SourceFault
     }
 }
 
-/// A log without changes of tables of these names, and with the hidden values of these columns.
+/// A log with the hidden values of these columns.
 fn weigh(
     alloc: Global,
     derivation: &Derivation,
-    ignored: &[ByteString],
     log: LoggedTransactions,
 ) -> Result<LoggedTransactions, SourceFault>
-    ensures found { IfOk result (IsWeighedLog (said_by derivation.now ignored.now) log) }
-    ensures refused { IfErr result (IsUnweighedLog (said_by derivation.now ignored.now) log) }
+    ensures found { IfOk result (IsWeighedLog derivation.now log) }
+    ensures refused { IfErr result (IsUnweighedLog derivation.now log) }
 {
     if let Some(part) = first_other(derivation.columns(), &log.varied) {
         return Err(other_collation(part));
@@ -131,9 +125,6 @@ fn weigh(
         varied,
     } = log;
     gtids_stay();
-    let Ok(entries) = kept_entries(alloc, ignored, entries) else {
-        return Err(SourceFault::Text(ReadFault::Set(SetFault::Memory)));
-    };
     match derivation.derive_entries(alloc, entries) {
         Ok(entries) => Ok(LoggedTransactions {
             previous,
@@ -145,28 +136,24 @@ fn weigh(
 }
 
 impl<'a, L: Logs> Logs for WeighedLogs<'a, L> {
-    ghost origin = { λ w. weighed (said_by w.derivation.now w.ignored.now) (L.origin w.logs.now) };
+    ghost origin = { λ w. weighed w.derivation.now (L.origin w.logs.now) };
 
     fn accepted(&self) -> &GtidSet {
         self.logs.accepted()
-    }
-
-    fn ignored(&self) -> &[ByteString] {
-        self.ignored
     }
 
     fn read(
         &self,
         alloc: Global,
         name: &[u8],
-        head: &Bundle,
+        opening: &GtidSet,
         text: &[u8],
     ) -> Result<ReadChannel, SourceFault> {
-        let ReadChannel { log, is_unchecked } = match self.logs.read(alloc, name, head, text) {
+        let ReadChannel { log, is_unchecked } = match self.logs.read(alloc, name, opening, text) {
             Ok(read) => read,
             Err(fault) => return Err(fault),
         };
-        match weigh(alloc, self.derivation, self.ignored, log) {
+        match weigh(alloc, self.derivation, log) {
             Ok(log) => Ok(ReadChannel { log, is_unchecked }),
             Err(fault) => Err(fault),
         }

@@ -1,5 +1,5 @@
 -- The GTIDs of events. None: the body is not in the form of its kind.
-use Rattle.std.specs.Prelude.{ℕ, zero, suc, ◌+◌, ◌*◌, ◌/◌, ◌%◌, ◌^◌, ◌==◌, ◌&&◌, not, nat_lt, nat_le, Bool, List, length, take, slice_index, Option, Some, None, if◌then◌else◌}
+use Rattle.std.specs.Prelude.{ℕ, zero, suc, ◌+◌, ◌*◌, ◌/◌, ◌%◌, ◌^◌, ◌==◌, ◌&&◌, nat_lt, nat_le, Bool, List, length, take, Option, Some, None, if◌then◌else◌}
 use Rattle.std.specs.Int.{w128, from_be_bytes}
 use Rattle.gtid_text.specs.declared.Gtid.{Gtid}
 use Rattle.binlog_events.specs.Numbers.{part, low_number, varied}
@@ -17,16 +17,6 @@ unfoldable pub gtid_of : List ℕ → Option Gtid
 gtid_of body =
     if nat_lt (length body) 25 then None
     else numbered (from_be_bytes w128 (part 1 16 body)) (low_number (part 17 8 body))
-
--- The time of a transaction's first commit, in microseconds since 1970. GTID: behind the number a byte 2 and 16 bytes of two other numbers,
--- then 7 bytes of the time of the commit here; where their highest bit is set it was committed elsewhere before, and 7 bytes of that time follow.
-unfoldable pub commit_time : List ℕ → Option ℕ
-commit_time body =
-    if nat_lt (length body) 49 then None
-    else if not (slice_index body 25 == 2) then None
-    else if nat_lt (slice_index body 48) 128 then Some (low_number (part 42 7 body))
-    else if nat_lt (length body) 56 then None
-    else Some (low_number (part 49 7 body))
 
 -- ---- GTID_TAGGED: a message, which is numbers of varying length: the message's version, its size, and the last field that may not be
 -- ---- passed over; then fields, each with its number before it: 0 flags; 1 the UUID, each byte a number; 2 the number, doubled, for it has a

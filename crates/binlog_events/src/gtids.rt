@@ -2,7 +2,7 @@
 ghost use Rattle.std.specs.Prelude.{◌≡◌, ◌+◌, ◌≤◌, length, option_map};
 ghost use Rattle.std.specs.Int.{w128, from_be_bytes};
 ghost use Rattle.binlog_events.specs.Numbers.{part};
-ghost use Rattle.binlog_events.specs.Gtids.{is_number, numbered, gtid_of, commit_time, behind_number, in_field, source_from, tagged_by, tagged_behind, tagged_fields, tagged_of, tagged_gtid};
+ghost use Rattle.binlog_events.specs.Gtids.{is_number, numbered, gtid_of, behind_number, in_field, source_from, tagged_by, tagged_behind, tagged_fields, tagged_of, tagged_gtid};
 
 use crate::numbers::{low_number, part, varied};
 use gtid_text::{Gtid, SourceId};
@@ -45,24 +45,6 @@ pub fn gtid_of(body: &[u8]) -> Option<Gtid>
         return None;
     }
     numbered(sixteen(body, 1), low_number(part(17, 8, body)))
-}
-
-/// When the transaction of a GTID event was first committed, on whatever server: microseconds since 1970, in UTC. `None` where the body has no
-/// time, as with servers before 8.0.
-#[tactic(auto, unfolding(crate::specs::Gtids::commit_time))]
-pub fn commit_time(body: &[u8]) -> Option<u64>
-    ensures { result ≡ commit_time body.now }
-{
-    if body.len() < 49 || body[25] != 2 {
-        return None;
-    }
-    if body[48] < 128 {
-        return Some(low_number(part(42, 7, body)));
-    }
-    if body.len() < 56 {
-        return None;
-    }
-    Some(low_number(part(49, 7, body)))
 }
 
 /// What is behind the number of varying length at the front.

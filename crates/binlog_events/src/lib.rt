@@ -28,7 +28,7 @@ mod row_lines;
 mod text;
 
 pub use bodies::{NamedTable, mapped, query_text, rows_id};
-pub use gtids::{commit_time, gtid_of};
+pub use gtids::gtid_of;
 pub use laws::{file_is_listed, one_list};
 pub use lister::{EventLister, fault_word, put_refusal};
 pub use previous::previous_text;

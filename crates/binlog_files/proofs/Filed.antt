@@ -110,13 +110,13 @@ with_file given files bytes old new b c h takes =
 
 -- ---- one file more of those that are there
 
-abbrev pub bytes_of : List (Vec ℕ Global) → List (List ℕ)
+abbrev bytes_of : List (Vec ℕ Global) → List (List ℕ)
 bytes_of files = map (λ v. v.items) files
 
 file_bytes : (files : List (Vec ℕ Global)) (i : ℕ) (x : Vec ℕ Global) (bytes : List ℕ) → x ≡ get_or files i x → bytes ≡ x.items → (get_or files i x).items ≡ bytes
 file_bytes files i x bytes x_is is = sym (is ∙ ap (λ (v : Vec ℕ Global). v.items) x_is)
 
-pub next_files : (files : List (Vec ℕ Global)) (i : ℕ) (x : Vec ℕ Global) (bytes : List ℕ) → i < length files → x ≡ get_or files i x → bytes ≡ x.items
+next_files : (files : List (Vec ℕ Global)) (i : ℕ) (x : Vec ℕ Global) (bytes : List ℕ) → i < length files → x ≡ get_or files i x → bytes ≡ x.items
     → bytes_of (take (i + 1) files) ≡ bytes_of (take i files) ++ bytes ∷ []
 next_files files i x bytes lt x_is is =
     ap (λ xs. bytes_of xs) (take_more files i x lt)

@@ -4,5 +4,3 @@ pub mod Numbered
 pub mod Running
 pub mod Wholes
 pub mod Filed
-pub mod Placed
-pub mod PlacesLaw

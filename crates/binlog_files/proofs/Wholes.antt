@@ -21,7 +21,8 @@ use Rattle.log_transactions.specs.declared.fault.EventRefusal.{EventRefusal}
 use Rattle.log_transactions.specs.declared.fault.EventRefusal.TheVariants.{Transaction}
 use Rattle.binlog_files.specs.Given.{Given}
 use Rattle.binlog_files.specs.Files.{HasTaken, IsDamaged}
-use Rattle.binlog_files.specs.Taking.{FilesState, of_log, told_to, with_log, with_name, begin_transaction, is_outside, told_for, start, take_event, and_then, take_events}
+use Rattle.binlog_files.specs.Taking.{FilesState, of_log, told_to, with_log, with_name, begin_transaction, is_outside, is_accepted, start, take_event, and_then, take_events}
+use Rattle.binlog_files.specs.Told.{told}
 use Rattle.binlog_files.specs.Whole.{name_told, events_told, event_told, told_behind, told_by, TakesFile, TakesFiles, NoFile, AndFile, IsLogOfFiles}
 use Rattle.binlog_files.specs.declared.fault.FileRefusal.{FileRefusal}
 
@@ -82,8 +83,8 @@ by_tests s m false false first other es ds f g h = g h
 runs_event : (given : Given) (s m : FilesState) (e : Framed) → take_event given s e ≡ Ok m → runs s.log (event_told given s e) ≡ Ok m.log
 unfolding take_event
 runs_event given s m e h =
-    by_tests s m (e.kind == 33) (s.is_passed && not (is_outside e.kind)) (begin_transaction given s (gtid_of e.body)) (with_log s e (told_to s.log (told_for given s e)))
-    (name_told given (gtid_of e.body)) (events_told (told_for given s e)) (begun given s m (gtid_of e.body)) (told_in s m e (told_for given s e)) h
+    by_tests s m (e.kind == 33) (s.is_passed && not (is_outside e.kind)) (begin_transaction given s (gtid_of e.body)) (with_log s e (told_to s.log (told s.tables (is_accepted given s) e)))
+    (name_told given (gtid_of e.body)) (events_told (told s.tables (is_accepted given s) e)) (begun given s m (gtid_of e.body)) (told_in s m e (told s.tables (is_accepted given s) e)) h
 
 -- ---- events
 

@@ -5,10 +5,8 @@ pub mod Given
 pub mod Statements
 pub mod Tables
 pub mod Rows
-pub mod Keys
 pub mod Told
 pub mod Taking
 pub mod Moved
 pub mod Files
 pub mod Whole
-pub mod Places

@@ -14,7 +14,6 @@ use Rattle.binlog_frames.specs.Spelling.{Framed}
 use Rattle.binlog_events.specs.Gtids.{gtid_of}
 use Rattle.binlog_events.specs.Previous.{previous_text}
 use Rattle.binlog_files.specs.Given.{Given}
-use Rattle.binlog_files.specs.Keys.{key_refusal, told_unless}
 use Rattle.binlog_files.specs.Tables.{Tables, no_tables, tables_after}
 use Rattle.binlog_files.specs.Told.{told, set_said}
 use Rattle.binlog_files.specs.declared.fault.FileFault.{FileFault}
@@ -71,16 +70,12 @@ accepts accepted (Some gtid) = set.contains accepted gtid
 abbrev pub is_accepted : Given → FilesState → Bool
 is_accepted given s = accepts given.accepted (named s.log)
 
--- what an event tells but a GTID, unless it is refused for what is said of the foreign keys
-abbrev pub told_for : Given → FilesState → Framed → Result (List Event) FileRefusal
-told_for given s e = told_unless (key_refusal given.keys e) (told s.tables (is_accepted given s) e)
-
 -- an event is taken; 33 is GTID
 unfoldable pub take_event : Given → FilesState → Framed → Result FilesState FileRefusal
 take_event given s e =
     if e.kind == 33 then begin_transaction given s (gtid_of e.body)
     else if s.is_passed && not (is_outside e.kind) then Ok s
-    else with_log s e (told_to s.log (told_for given s e))
+    else with_log s e (told_to s.log (told s.tables (is_accepted given s) e))
 
 abbrev pub and_then : Result FilesState FileRefusal → (FilesState → Result FilesState FileRefusal) → Result FilesState FileRefusal
 and_then (Ok s) next = next s

@@ -19,7 +19,8 @@ use Rattle.binlog_events.specs.Gtids.{gtid_of}
 use Rattle.binlog_files.specs.Given.{Given}
 use Rattle.binlog_files.specs.Files.{HasTaken, HasCome, IsDamaged, Stops}
 use Rattle.binlog_files.specs.Moved.{files_state}
-use Rattle.binlog_files.specs.Taking.{FilesState, is_outside, told_for, start, take_event, take_events}
+use Rattle.binlog_files.specs.Taking.{FilesState, is_outside, is_accepted, start, take_event, take_events}
+use Rattle.binlog_files.specs.Told.{told}
 use Rattle.binlog_files.specs.declared.fault.FileRefusal.{FileRefusal}
 use Rattle.binlog_files.specs.declared.fault.FileRefusal.TheVariants as refusals
 use Rattle.binlog_files.specs.declared.files.FilesFault.{FilesFault}
@@ -42,7 +43,7 @@ abbrev pub event_told : Given → FilesState → Framed → List Event
 event_told given s e =
     if e.kind == 33 then name_told given (gtid_of e.body)
     else if s.is_passed && not (is_outside e.kind) then []
-    else events_told (told_for given s e)
+    else events_told (told s.tables (is_accepted given s) e)
 
 abbrev pub told_behind : Result FilesState FileRefusal → (FilesState → List Event) → List Event
 told_behind (Ok t) next = next t

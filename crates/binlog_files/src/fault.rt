@@ -37,10 +37,6 @@ pub enum FileRefusal {
     Value,
     /// A kind of event that is unknown, and may not be passed over.
     Kind,
-    /// A statement uses a table with a foreign key, though there is said to be none.
-    References,
-    /// A rows event of a server that changes rows by foreign keys without logging it, and there is such a key.
-    Cascade,
 }
 
 fn event_word(refusal: EventRefusal) -> &'static str
@@ -76,8 +72,6 @@ impl FileRefusal {
             FileRefusal::Metadata => "metadata",
             FileRefusal::Value => "value",
             FileRefusal::Kind => "kind",
-            FileRefusal::References => "references",
-            FileRefusal::Cascade => "cascade",
         }
     }
 }

@@ -2,11 +2,11 @@
 ghost use Rattle.std.specs.Prelude.{◌≡◌, Ok, OnOk, IfOk, IfErr};
 ghost use Rattle.binlog_frames.specs.Standing.{front_at};
 ghost use Rattle.binlog_files.specs.Files.{TakesOn, StopsOn, NextTaken, NextStops, FrontTaken, AllTaken, AllStop};
-ghost use Rattle.binlog_files.specs.Given.{terms};
+ghost use Rattle.binlog_files.specs.Given.{sets};
 ghost use Rattle.binlog_files.specs.Moved.{files_state};
 
 use crate::fault::{FileFault, FileRefusal};
-use crate::given::GivenTerms;
+use crate::given::GivenSets;
 use crate::taking::TakenEvents;
 use binlog_frames::{FrameFault, FrameReader};
 use gtid_set::{GtidSet, SetFault};
@@ -34,12 +34,12 @@ pub struct LogFiles {
 /// Takes the event at the front, if it has come whole.
 fn take_next(
     alloc: Global,
-    given: GivenTerms<'_>,
+    given: GivenSets<'_>,
     frames: &FrameReader,
     taken: &mut TakenEvents,
 ) -> Result<bool, FilesFault>
-    ensures taken { IfOk result (NextTaken (terms given.entry) frames.now (files_state taken.old) (files_state taken.new)) }
-    ensures stops { IfErr result (NextStops (terms given.entry) frames.now (files_state taken.old)) }
+    ensures taken { IfOk result (NextTaken (sets given.entry) frames.now (files_state taken.old) (files_state taken.new)) }
+    ensures stops { IfErr result (NextStops (sets given.entry) frames.now (files_state taken.old)) }
 {
     match frames.front() {
         Err(fault) => Err(FilesFault::Damaged(fault)),
@@ -55,12 +55,12 @@ fn take_next(
 /// Takes the event at the front, if it has come whole, and passes it.
 fn take_front(
     alloc: Global,
-    given: GivenTerms<'_>,
+    given: GivenSets<'_>,
     frames: &mut FrameReader,
     taken: &mut TakenEvents,
 ) -> Result<bool, FilesFault>
-    ensures taken { IfOk result (FrontTaken (terms given.entry) frames.old frames.new (files_state taken.old) (files_state taken.new)) }
-    ensures stops { IfErr result (AllStop (terms given.entry) frames.old (files_state taken.old)) }
+    ensures taken { IfOk result (FrontTaken (sets given.entry) frames.old frames.new (files_state taken.old) (files_state taken.new)) }
+    ensures stops { IfErr result (AllStop (sets given.entry) frames.old (files_state taken.old)) }
 {
     match take_next(alloc, given, frames, taken) {
         Ok(true) => {
@@ -75,12 +75,12 @@ fn take_front(
 /// Takes all events that have come whole.
 fn drain(
     alloc: Global,
-    given: GivenTerms<'_>,
+    given: GivenSets<'_>,
     frames: &mut FrameReader,
     taken: &mut TakenEvents,
 ) -> Result<(), FilesFault>
-    ensures taken { OnOk result (AllTaken (terms given.entry) frames.old frames.new (files_state taken.old) (files_state taken.new)) }
-    ensures stops { IfErr result (AllStop (terms given.entry) frames.old (files_state taken.old)) }
+    ensures taken { OnOk result (AllTaken (sets given.entry) frames.old frames.new (files_state taken.old) (files_state taken.new)) }
+    ensures stops { IfErr result (AllStop (sets given.entry) frames.old (files_state taken.old)) }
 {
     'events: loop {
         match take_front(alloc, given, frames, taken) {
@@ -113,11 +113,11 @@ impl LogFiles {
     pub fn feed(
         &mut self,
         alloc: Global,
-        given: GivenTerms<'_>,
+        given: GivenSets<'_>,
         piece: &[u8],
     ) -> Result<(), FilesFault>
-        ensures taken { OnOk result (TakesOn (terms given.entry) self.old self.new piece.now) }
-        ensures stops { IfErr result (StopsOn (terms given.entry) self.old piece.now) }
+        ensures taken { OnOk result (TakesOn (sets given.entry) self.old self.new piece.now) }
+        ensures stops { IfErr result (StopsOn (sets given.entry) self.old piece.now) }
     {
         let Ok(()) = self.frames.feed(alloc, piece) else {
             return Err(FilesFault::Set(SetFault::Memory));

@@ -2,18 +2,14 @@
 //!
 //! What a contract sees: `told` (`specs/Told`) is what an event tells, in the words of `log_transactions`, where these tables are mapped, or why
 //! it is refused; `take_events` (`specs/Taking`) is a state after events, of which transactions of the opening set are passed over, whatever they
-//! hold. An operator may answer for the statements of some transactions (`GivenTerms`): those that may be accepted (`may_be_accepted`,
-//! `specs/Accepted`) and come right behind their GTID are entries without changes then. What is said of foreign keys (`ForeignKeys`) is tested at
-//! each event (`key_refusal`, `specs/Keys`): a statement uses one though there is none, or the server changes rows by one and doesn't log it. `LogFiles` is fed the bytes of the files of a log, one file after another (`HasTaken`). A file whose bytes are not those of events, by
+//! hold. An operator may answer for the statements of some transactions (`GivenSets`): those that may be accepted (`may_be_accepted`,
+//! `specs/Accepted`) and come right behind their GTID are entries without changes then. `LogFiles` is fed the bytes of the files of a log, one file after another (`HasTaken`). A file whose bytes are not those of events, by
 //! the grammar of `binlog_frames`, or an event that is refused, ends the reading, with the event's offset (`IsDamaged`, `IsRefused`).
 //! `read_files` does so with files that are there whole: what they tell of a log, its entries denote (`AreFilesOf`), or a file of this number
 //! stops it (`StopsInFiles`). `is_unchecked` is whether a file has no checksums (`has_no_checksums`): damage in it can't be seen.
 //!
 //! A TABLE_MAP tells its table, the number of its columns, and which of these a server compares otherwise than by their bytes. One that doesn't
 //! say its signs or collations is refused: nothing is guessed.
-//!
-//! `transaction_places` finds in a pass of its own where each transaction begins (`HavePlaces`, `specs/Places`); in the files of a log these are
-//! the places of its entries, in order (`places_are_of_entries`).
 //!
 //! What is kept is one event's bytes, the tables that were mapped, and the log; by `read_files` the bytes of one file more.
 //!
@@ -27,10 +23,7 @@ mod bodies;
 mod fault;
 mod files;
 mod given;
-mod keys;
-mod laws;
 mod mapping;
-mod places;
 mod previous;
 mod row_events;
 mod statements;
@@ -40,7 +33,5 @@ mod whole;
 
 pub use fault::{FileFault, FileRefusal};
 pub use files::{FilesFault, LogFiles};
-pub use given::{ForeignKeys, GivenTerms};
-pub use laws::places_are_of_entries;
-pub use places::{TransactionPlace, transaction_places};
+pub use given::GivenSets;
 pub use whole::{FiledFault, FiledTransactions, read_files};

@@ -3,7 +3,7 @@ ghost use Rattle.std.specs.Prelude.{◌≡◌, true, Ok, Some, None, OnOk, optio
 ghost use Rattle.std.specs.FinSet as set;
 ghost use Rattle.journal.specs.Writing.{is_number};
 ghost use Rattle.binlog_events.specs.Gtids.{gtid_of};
-ghost use Rattle.binlog_files.specs.Given.{terms};
+ghost use Rattle.binlog_files.specs.Given.{sets};
 ghost use Rattle.binlog_files.specs.Moved.{files_state};
 ghost use Rattle.binlog_files.specs.Tables.{tables_in, HasTables, tables_after};
 ghost use Rattle.binlog_files.specs.Taking.{TellsOr, NamesOr, BeginsOr, TakesEvent, is_outside, is_accepted, start, begin_transaction, IsTellFault};
@@ -14,8 +14,7 @@ ghost use Rattle.log_transactions.specs.States.{state};
 
 use crate::bodies::{settled, take_other, take_query, take_xid};
 use crate::fault::{FileFault, FileRefusal};
-use crate::given::GivenTerms;
-use crate::keys::key_refusal;
+use crate::given::GivenSets;
 use crate::mapping::take_map;
 use crate::previous::take_previous;
 use crate::row_events::take_rows_event;
@@ -70,8 +69,8 @@ impl TakenEvents {
     }
 
     /// A transaction begins: it is one of the opening set, or the log's.
-    fn begin_transaction(&mut self, given: GivenTerms<'_>, body: &[u8]) -> Result<(), FileFault>
-        ensures { BeginsOr (terms given.entry) result (files_state self.old) (gtid_of body.now) (files_state self.new) }
+    fn begin_transaction(&mut self, given: GivenSets<'_>, body: &[u8]) -> Result<(), FileFault>
+        ensures { BeginsOr (sets given.entry) result (files_state self.old) (gtid_of body.now) (files_state self.new) }
     {
         let Some(gtid) = gtid_of(body) else {
             return Err(FileFault::Refused(FileRefusal::Format));
@@ -84,8 +83,8 @@ impl TakenEvents {
     }
 
     /// Whether an operator answers for a statement that comes now.
-    fn is_accepted(&self, given: GivenTerms<'_>) -> bool
-        ensures { result ≡ is_accepted (terms given.entry) (files_state self.now) }
+    fn is_accepted(&self, given: GivenSets<'_>) -> bool
+        ensures { result ≡ is_accepted (sets given.entry) (files_state self.now) }
     {
         match self.log.named() {
             Some(gtid) => given.accepted.contains(&gtid),
@@ -127,19 +126,16 @@ impl TakenEvents {
     pub(crate) fn take(
         &mut self,
         alloc: Global,
-        given: GivenTerms<'_>,
+        given: GivenSets<'_>,
         event: &LoggedEvent<'_>,
     ) -> Result<(), FileFault>
-        ensures { TakesEvent (terms given.entry) result (files_state self.old) (view event.now) (files_state self.new) }
+        ensures { TakesEvent (sets given.entry) result (files_state self.old) (view event.now) (files_state self.new) }
     {
         if event.kind == 33 {
             return self.begin_transaction(given, event.body);
         }
         if self.is_passed && !is_outside(event.kind) {
             return Ok(());
-        }
-        if let Some(refusal) = key_refusal(given.keys, event) {
-            return Err(FileFault::Refused(refusal));
         }
         let is_accepted = self.is_accepted(given);
         self.tell(alloc, is_accepted, event)

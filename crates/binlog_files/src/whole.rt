@@ -3,13 +3,13 @@ ghost use Rattle.std.specs.Prelude.{◌≡◌, ◌||◌, [], false, map, IfOk, O
 ghost use Rattle.std.specs.List.{list_any};
 ghost use Rattle.binlog_frames.specs.Standing.{front_at};
 ghost use Rattle.binlog_files.specs.Files.{HasCome};
-ghost use Rattle.binlog_files.specs.Given.{terms};
+ghost use Rattle.binlog_files.specs.Given.{sets};
 ghost use Rattle.binlog_files.specs.Taking.{start};
 ghost use Rattle.binlog_files.specs.Whole.{is_previous, behind_front, unlisted_at, is_unlisted, IsUnlisted, TakesWhole, StopsWhole, HaveFiles, StopsAtFile, AreFilesOf, StopsInFiles, has_no_checksums};
 
 use crate::fault::FileRefusal;
 use crate::files::{FilesFault, LogFiles};
-use crate::given::GivenTerms;
+use crate::given::GivenSets;
 use binlog_frames::FrameReader;
 use gtid_set::{GtidSet, SetFault};
 use log_transactions::LoggedTransactions;
@@ -77,12 +77,12 @@ fn check_listed(alloc: Global, bytes: &[u8]) -> Result<(), FilesFault>
 /// Takes a file whose bytes these are; whether its events have no checksums.
 fn take_file(
     alloc: Global,
-    given: GivenTerms<'_>,
+    given: GivenSets<'_>,
     log: &mut LogFiles,
     bytes: &[u8],
 ) -> Result<bool, FilesFault>
-    ensures taken { IfOk result (TakesWhole (terms given.entry) log.old bytes.now log.new) }
-    ensures stops { IfErr result (StopsWhole (terms given.entry) log.old bytes.now) }
+    ensures taken { IfOk result (TakesWhole (sets given.entry) log.old bytes.now log.new) }
+    ensures stops { IfErr result (StopsWhole (sets given.entry) log.old bytes.now) }
 {
     match log.feed(alloc, given, bytes) {
         Ok(()) => {}
@@ -108,13 +108,13 @@ fn either(one: bool, other: bool) -> bool
 /// Takes files, one after another; whether the events of one of them have no checksums.
 fn take_files(
     alloc: Global,
-    given: GivenTerms<'_>,
+    given: GivenSets<'_>,
     log: &mut LogFiles,
     files: &[Vec<u8>],
 ) -> Result<bool, FiledFault>
-    requires { HasCome (terms given) (start given.opening.now) [] log.old }
-    ensures taken { IfOk result (HaveFiles (terms given.entry) (map (λ v. v.items) files.now) log.new) }
-    ensures stops { IfErr result (λ f. StopsAtFile (terms given.entry) (map (λ v. v.items) files.now) f.file f.fault) }
+    requires { HasCome (sets given) (start given.opening.now) [] log.old }
+    ensures taken { IfOk result (HaveFiles (sets given.entry) (map (λ v. v.items) files.now) log.new) }
+    ensures stops { IfErr result (λ f. StopsAtFile (sets given.entry) (map (λ v. v.items) files.now) f.file f.fault) }
 {
     let mut is_unchecked = false;
     for (place, bytes) in files.iter().enumerate() {
@@ -132,15 +132,15 @@ fn take_files(
 /// What files have, where this is the copy of their opening set.
 fn read_behind(
     alloc: Global,
-    given: GivenTerms<'_>,
+    given: GivenSets<'_>,
     come: GtidSet,
     files: &[Vec<u8>],
 ) -> Result<FiledTransactions, FiledFault>
     requires { come ≡ given.opening.now }
-    ensures found { IfOk result (λ l. AreFilesOf (terms given.entry) (map (λ v. v.items) files.now)
+    ensures found { IfOk result (λ l. AreFilesOf (sets given.entry) (map (λ v. v.items) files.now)
         l.log.previous l.log.entries.items l.log.varied.items) }
     ensures unchecked { IfOk result (λ l. l.is_unchecked ≡ list_any has_no_checksums (map (λ v. v.items) files.now)) }
-    ensures refused { IfErr result (λ f. StopsAtFile (terms given.entry) (map (λ v. v.items) files.now) f.file f.fault) }
+    ensures refused { IfErr result (λ f. StopsAtFile (sets given.entry) (map (λ v. v.items) files.now) f.file f.fault) }
 {
     let mut log = LogFiles::start(alloc, come);
     match take_files(alloc, given, &mut log, files) {
@@ -158,16 +158,16 @@ fn read_behind(
 /// or within a transaction, and the GTIDs of its previous set lie in what came before it.
 pub fn read_files(
     alloc: Global,
-    given: GivenTerms<'_>,
+    given: GivenSets<'_>,
     files: &[Vec<u8>],
 ) -> Result<FiledTransactions, FiledFault>
     // The bytes are files of events, and what these tell of a log, the entries denote.
-    ensures found { IfOk result (λ l. AreFilesOf (terms given.entry) (map (λ v. v.items) files.now)
+    ensures found { IfOk result (λ l. AreFilesOf (sets given.entry) (map (λ v. v.items) files.now)
         l.log.previous l.log.entries.items l.log.varied.items) }
     // The FORMAT_DESCRIPTION of a file says that it has no checksums.
     ensures unchecked { IfOk result (λ l. l.is_unchecked ≡ list_any has_no_checksums (map (λ v. v.items) files.now)) }
     // The files before this one were taken, and behind them it is damaged or refused there.
-    ensures refused { IfErr result (StopsInFiles (terms given.entry) (map (λ v. v.items) files.now)) }
+    ensures refused { IfErr result (StopsInFiles (sets given.entry) (map (λ v. v.items) files.now)) }
 {
     match given.opening.copy(alloc) {
         Ok(come) => read_behind(alloc, given, come, files),

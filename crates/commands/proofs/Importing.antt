@@ -14,25 +14,20 @@ use Rattle.commands.specs.declared.import_fault.Refused.{Refused as Refusal}
 use Rattle.commands.specs.Bundles.{text_answer}
 use Rattle.txn_journal.specs.declared.lines.Version.TheVariants.{Three}
 use Rattle.commands.specs.Reports.{HoldsReport}
-use Rattle.commands.specs.Imports.{Imports, PrintsText, PrintsPlaced, HoldsPlaced, IsImport, IsImportRefused, IsOfFault, ImportsAll, IsFilesRefusal, ImportsWithFiles, unnamed, HasLine, bundle_refused, refusal_notes, silent_refusal}
+use Rattle.commands.specs.Imports.{Imports, IsImport, IsImportRefused, IsOfFault, ImportsAll, IsFilesRefusal, ImportsWithFiles, unnamed, HasLine, bundle_refused, refusal_notes, silent_refusal}
 use Rattle.commands.specs.declared.edge.RunFault.{RunFault}
 use Rattle.commands.specs.declared.report.Report.{Report}
 
 -- the answer to a text, by the bundle that it is
-pub imported_by : (imports : BundleValue → List ℕ → Type 0) (prints : BundleValue → Printed → Type 0) (reports : List ℕ → Printed → List ℕ → Type 0) (text : List ℕ) (b : BundleValue) (notes : List ℕ) (r : Result Report RunFault)
-    → ((p : Printed) (n : List ℕ) → IsImport imports prints p n → reports text p n) → imports b notes
-    → IfOk r (λ held. (printed : Printed) × prints b printed × Holds held.answer printed) → IfOk r (λ held. held.notes.items ≡ notes) → IfOk r (HoldsReport reports text)
-imported_by imports prints reports text b notes (Ok held) is i holds e = record {
-  printed = holds.0;
-  reported = is holds.0 held.notes.items (record { bundle = b; imported = subst (imports b) (sym e) i; answers = holds.1 });
-  holds = holds.2;
+pub imported_by : (imports : BundleValue → List ℕ → Type 0) (reports : List ℕ → Printed → List ℕ → Type 0) (text : List ℕ) (b : BundleValue) (notes : List ℕ) (r : Result Report RunFault)
+    → ((p : Printed) (n : List ℕ) → IsImport imports p n → reports text p n) → imports b notes
+    → IfOk r (λ held. Holds held.answer (text_answer Three b)) → IfOk r (λ held. held.notes.items ≡ notes) → IfOk r (HoldsReport reports text)
+imported_by imports reports text b notes (Ok held) is i holds e = record {
+  printed = text_answer Three b;
+  reported = is (text_answer Three b) held.notes.items (record { bundle = b; imported = subst (imports b) (sym e) i; answers = refl });
+  holds = holds;
 }
-imported_by imports prints reports text b notes (Err f) is i holds e = tt
-
--- the answer is the text of a bundle
-printed_text : (b : BundleValue) (r : Result Report RunFault) → IfOk r (λ held. Holds held.answer (text_answer Three b)) → IfOk r (λ held. (printed : Printed) × PrintsText b printed × Holds held.answer printed)
-printed_text b (Ok held) holds = (text_answer Three b, refl, holds)
-printed_text b (Err f) holds = tt
+imported_by imports reports text b notes (Err f) is i holds e = tt
 
 -- the answer to a text that is refused
 pub refused_by : (none : Refusal → Type 0) (reports : List ℕ → Printed → List ℕ → Type 0) (is_explained : Bool) (text : List ℕ) (refusal : Refusal) (r : Result Report RunFault)
@@ -48,8 +43,7 @@ refused_by none reports is_explained text refusal (Err f) is n holds e line = tt
 
 pub imported_so : (accepted : Gtids) (grants : Grants) (is_explained : Bool) (text : List ℕ) (b : BundleValue) (notes : List ℕ) (r : Result Report RunFault) → ImportsLogs grants (texts accepted) text b notes
     → IfOk r (λ held. Holds held.answer (text_answer Three b)) → IfOk r (λ held. held.notes.items ≡ notes) → IfOk r (HoldsReport (Imports accepted grants is_explained) text)
-imported_so accepted grants is_explained text b notes r i holds =
-    imported_by (ImportsLogs grants (texts accepted) text) PrintsText (Imports accepted grants is_explained) text b notes r (λ p n it. inl it) i (printed_text b r holds)
+imported_so accepted grants is_explained text b notes r = imported_by (ImportsLogs grants (texts accepted) text) (Imports accepted grants is_explained) text b notes r (λ p n it. inl it)
 
 pub refused_so : (accepted : Gtids) (grants : Grants) (is_explained : Bool) (text : List ℕ) (fault : BundleFault) (refusal : Refusal) (r : Result Report RunFault) → IsNoImportOfLogs grants (texts accepted) fault text
     → refusal ≡ bundle_refused fault
@@ -60,10 +54,10 @@ refused_so accepted grants is_explained text fault refusal r none is =
 
 -- ---- with files
 
-pub filed_so : (accepted : Gtids) (grants : Grants) (is_explained : Bool) (logs : List ChannelFiles) (text : List ℕ) (b : BundleValue) (notes : List ℕ) (r : Result Report RunFault) → ImportsLogs grants (log_files grants accepted logs) text b notes
+pub filed_so : (accepted : Gtids) (grants : Grants) (is_explained : Bool) (logs : List ChannelFiles) (text : List ℕ) (b : BundleValue) (notes : List ℕ) (r : Result Report RunFault) → ImportsLogs grants (log_files accepted logs) text b notes
     → unnamed logs b.channels ≡ None
-    → IfOk r (λ held. HoldsPlaced logs b held.answer) → IfOk r (λ held. held.notes.items ≡ notes) → IfOk r (HoldsReport (ImportsWithFiles accepted logs grants is_explained) text)
-filed_so accepted grants is_explained logs text b notes r i u = imported_by (ImportsAll accepted grants logs text) (PrintsPlaced logs) (ImportsWithFiles accepted logs grants is_explained) text b notes r (λ p n it. inl it) (i, u)
+    → IfOk r (λ held. Holds held.answer (text_answer Three b)) → IfOk r (λ held. held.notes.items ≡ notes) → IfOk r (HoldsReport (ImportsWithFiles accepted logs grants is_explained) text)
+filed_so accepted grants is_explained logs text b notes r i u = imported_by (ImportsAll accepted grants logs text) (ImportsWithFiles accepted logs grants is_explained) text b notes r (λ p n it. inl it) (i, u)
 
 pub unnamed_so : (accepted : Gtids) (grants : Grants) (is_explained : Bool) (logs : List ChannelFiles) (text : List ℕ) (refusal : Refusal) (r : Result Report RunFault) → IsFilesRefusal accepted grants logs text refusal
     → IfOk r (λ held. Holds held.answer silent_refusal) → IfOk r (λ held. held.notes.items ≡ refusal_notes is_explained text refusal) → OnOk r (HasLine refusal)

@@ -19,4 +19,3 @@ pub mod Exact
 pub mod BundleRead
 pub mod EventLines
 pub mod Tallying
-pub mod JsonFinding

@@ -28,16 +28,14 @@ use Rattle.binlog_entries.specs.declared.limits.Limit.{Limit}
 use Rattle.binlog_entries.specs.declared.limits.Limit.TheVariants as limits
 use Rattle.binlog_bundle.specs.Logs.{texts}
 use Rattle.binlog_bundle.specs.Files.{files as log_files}
-use Rattle.binlog_bundle.specs.Places.{IsPlacedText}
 use Rattle.binlog_bundle.specs.Weighed.{ImportsLogs, IsNoImportOfLogs}
 use Rattle.binlog_bundle.specs.declared.fault.BundleFault.{BundleFault}
 use Rattle.binlog_bundle.specs.declared.fault.BundleFault.TheVariants as bundles
 use Rattle.binlog_bundle.specs.declared.grants.Grants.{Grants}
-use Rattle.commands.specs.Printed.{Printed, Holds, with_line_feed}
+use Rattle.commands.specs.Printed.{Printed, with_line_feed}
 use Rattle.commands.specs.Bundles.{text_answer}
 use Rattle.txn_journal.specs.declared.lines.Version.TheVariants.{Three}
 use Rattle.commands.specs.LogPlaces.{Place, place_at, place_text}
-use Rattle.commands.specs.declared.answer.Answer.{Answer}
 use Rattle.commands.specs.declared.edge.Outcome.TheVariants as outcomes
 use Rattle.binlog_events.specs.Listing.{fault_word}
 use Rattle.binlog_files.specs.Words.{word_of as refusal_word}
@@ -97,7 +95,6 @@ logless_refused line logless.Missing = At line cause.NoFiles
 logless_refused line logless.Surplus = At line cause.Text
 logless_refused line (logless.Collation table column) = At line (cause.Collation table column)
 logless_refused line (logless.Weights gtid table column) = At line (cause.Weights gtid table column)
-logless_refused line (logless.Cascade n) = At (line_behind line n) cause.Cascade
 
 abbrev pub bundle_refused : BundleFault → Refusal
 bundle_refused (bundles.Own fault) = Known (journal_fault fault)
@@ -145,7 +142,6 @@ cause_text cause.NoFiles place = codes "files"
 cause_text cause.Text place = codes "text"
 cause_text (cause.Collation table column) place = codes "collation" ++ column_text table column
 cause_text (cause.Weights gtid table column) place = codes "characters " ++ (gtid_text gtid ++ column_text table column)
-cause_text cause.Cascade place = codes "cascade"
 
 -- the word of what is wrong with a binary log file
 abbrev pub file_word : FileCause → List ℕ
@@ -205,15 +201,11 @@ refusal_notes is_explained text r = with_line_feed (refused_line text r) ++ expl
 abbrev pub silent_refusal : Printed
 silent_refusal = record { text = []; outcome = outcomes.Refused }
 
--- the text of a bundle by version 3
-abbrev pub PrintsText : BundleValue → Printed → Type 0
-PrintsText b printed = printed ≡ text_answer Three b
-
--- The bundle is imported: the answer is its text, and the notes are what a verdict on that won't see and it doesn't say.
-pub record IsImport (imports : BundleValue → List ℕ → Type 0) (prints : BundleValue → Printed → Type 0) (printed : Printed) (notes : List ℕ) : Type 0 where
+-- The bundle is imported: the answer is its text by version 3, and the notes are what a verdict on that won't see and it doesn't say.
+pub record IsImport (imports : BundleValue → List ℕ → Type 0) (printed : Printed) (notes : List ℕ) : Type 0 where
   pub bundle : BundleValue
   pub imported : imports bundle notes
-  pub answers : prints bundle printed
+  pub answers : printed ≡ text_answer Three bundle
 
 -- The text is refused: nothing is printed, and the notes are the line of the refusal, with what explains it.
 pub record IsImportRefused (none : Refusal → Type 0) (is_explained : Bool) (text : List ℕ) (printed : Printed) (notes : List ℕ) : Type 0 where
@@ -230,18 +222,10 @@ IsOfFault none refusal = (fault : BundleFault) × none fault × (refusal ≡ bun
 -- these are the answer of `import` to this text and the notes beside it, where an operator answers for the statements of these GTIDs
 abbrev pub Imports : Gtids → Grants → Bool → List ℕ → Printed → List ℕ → Type 0
 Imports accepted grants is_explained text printed notes =
-    IsImport (ImportsLogs grants (texts accepted) text) PrintsText printed notes
+    IsImport (ImportsLogs grants (texts accepted) text) printed notes
     ⊎ IsImportRefused (IsOfFault (λ fault. IsNoImportOfLogs grants (texts accepted) fault text)) is_explained text printed notes
 
 -- ---- with binary log files
-
--- the same text, with the place of each entry in these files before the entry
-abbrev pub PrintsPlaced : List ChannelFiles → BundleValue → Printed → Type 0
-PrintsPlaced logs b printed = (text : List ℕ) × IsPlacedText logs b text × (printed ≡ record { text = text; outcome = outcomes.Done })
-
--- the code's answer is that
-abbrev pub HoldsPlaced : List ChannelFiles → BundleValue → Answer → Type 0
-HoldsPlaced logs b answer = (printed : Printed) × PrintsPlaced logs b printed × Holds answer printed
 
 abbrev pub has_name : List ℕ → List BundleChannel → Bool
 has_name name channels = list_any (λ c. bytes_eq c.name name) channels
@@ -253,19 +237,19 @@ unnamed (f ∷ fs) channels = if has_name f.name.items channels then unnamed fs 
 
 -- a bundle is imported whose channels have all of these files
 abbrev pub ImportsAll : Gtids → Grants → List ChannelFiles → List ℕ → BundleValue → List ℕ → Type 0
-ImportsAll accepted grants logs text b notes = ImportsLogs grants (log_files grants accepted logs) text b notes × (unnamed logs b.channels ≡ None)
+ImportsAll accepted grants logs text b notes = ImportsLogs grants (log_files accepted logs) text b notes × (unnamed logs b.channels ≡ None)
 
 -- a bundle is imported, but these files are of none of its channels
 abbrev pub HasUnnamed : Gtids → Grants → List ChannelFiles → List ℕ → Refusal → Type 0
 HasUnnamed accepted grants logs text (Files name) =
-    (b : BundleValue) × (notes : List ℕ) × ImportsLogs grants (log_files grants accepted logs) text b notes × (unnamed logs b.channels ≡ Some name.items)
+    (b : BundleValue) × (notes : List ℕ) × ImportsLogs grants (log_files accepted logs) text b notes × (unnamed logs b.channels ≡ Some name.items)
 HasUnnamed accepted grants logs text _ = ⊥
 
 -- the text is refused with these files, or one of these
 abbrev pub IsFilesRefusal : Gtids → Grants → List ChannelFiles → List ℕ → Refusal → Type 0
-IsFilesRefusal accepted grants logs text refusal = IsOfFault (λ fault. IsNoImportOfLogs grants (log_files grants accepted logs) fault text) refusal ⊎ HasUnnamed accepted grants logs text refusal
+IsFilesRefusal accepted grants logs text refusal = IsOfFault (λ fault. IsNoImportOfLogs grants (log_files accepted logs) fault text) refusal ⊎ HasUnnamed accepted grants logs text refusal
 
 -- these are the answer of `import` to this text and these files, and the notes beside it, where an operator answers for these statements
 abbrev pub ImportsWithFiles : Gtids → List ChannelFiles → Grants → Bool → List ℕ → Printed → List ℕ → Type 0
 ImportsWithFiles accepted logs grants is_explained text printed notes =
-    IsImport (ImportsAll accepted grants logs text) (PrintsPlaced logs) printed notes ⊎ IsImportRefused (IsFilesRefusal accepted grants logs text) is_explained text printed notes
+    IsImport (ImportsAll accepted grants logs text) printed notes ⊎ IsImportRefused (IsFilesRefusal accepted grants logs text) is_explained text printed notes

@@ -21,4 +21,3 @@ pub mod Tallies
 pub mod Explaining
 pub mod Telling
 pub mod Exact
-pub mod JsonAudits

@@ -34,7 +34,7 @@ fn import_found(alloc: Global, bundle: &Bundle) -> Result<Answer, RunFault>
 }
 
 /// The text of a bundle, and what a verdict on it won't see and it doesn't say. The bundle is leaked: the end of the process frees it.
-fn report_imported(alloc: Global, imported: ImportedBundle) -> Result<Report, RunFault>
+pub(crate) fn report_imported(alloc: Global, imported: ImportedBundle) -> Result<Report, RunFault>
     ensures answer { IfOk result (λ held. Holds held.answer (text_answer Three imported.bundle)) }
     ensures notes { IfOk result (λ held. held.notes.items ≡ imported.notes.items) }
     ensures memory { IfErr result (λ f. f ≡ RunFault.Memory) }

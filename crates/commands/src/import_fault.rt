@@ -37,8 +37,6 @@ pub(crate) enum ImportCause {
     Collation(Name, u32),
     /// In the entry of this GTID a value of this column of this table has no hidden value, as bytes that are no text of its character set.
     Weights(Gtid, Name, u32),
-    /// The line is the head of a rows event of a server that doesn't log what it changes by foreign keys, and it does change rows.
-    Cascade,
 }
 
 /// What is wrong with a binary log file.
@@ -161,7 +159,6 @@ fn logless_refused(line: u64, why: Logless) -> Refused
         Logless::Weights(gtid, table, column) => {
             Refused::At(line, ImportCause::Weights(gtid, table, column))
         }
-        Logless::Cascade(at) => Refused::At(line.saturating_add(at), ImportCause::Cascade),
     }
 }
 

@@ -1,22 +1,19 @@
 //! The command `import` with binary log files.
 ghost use Rattle.std.specs.Prelude.{◌≡◌, None, option_map, IfOk, IfErr};
 ghost use Rattle.commands.specs.Reports.{HoldsReport, HasReported, HasNotReported};
-ghost use Rattle.commands.specs.Imports.{ImportsWithFiles, HoldsPlaced, has_name, unnamed};
+ghost use Rattle.commands.specs.Imports.{ImportsWithFiles, has_name, unnamed};
 ghost use Rattle.binlog_bundle.specs.Weighed.{ImportsLogs};
 ghost use Rattle.binlog_bundle.specs.Files.{files as log_files};
 
-use crate::answer::Answer;
 use crate::edge::{Outcome, RunFault, Sink, Source};
-use crate::import_command::report_refused;
+use crate::import_command::{report_imported, report_refused};
 use crate::import_fault::{Refused, bundle_refused};
-use crate::pieces::Text;
 use crate::report::{Report, Reporter, run_report};
 use crate::streams::Streams;
-use binlog_bundle::{ChannelFiles, Grants, ImportedBundle, import_files, placed_text};
+use binlog_bundle::{ChannelFiles, Grants, ImportedBundle, import_files};
 use gtid_set::GtidSet;
 use std::alloc::Global;
-use std::mem;
-use txn_journal::{Bundle, BundleChannel};
+use txn_journal::BundleChannel;
 
 /// Whether a channel has this name.
 fn has_name(name: &[u8], channels: &[BundleChannel]) -> bool
@@ -39,39 +36,6 @@ fn unnamed<'a>(logs: &'a [ChannelFiles], channels: &[BundleChannel]) -> Option<&
     None
 }
 
-/// The text of a bundle, with the place of each entry in these files.
-fn placed_found(alloc: Global, logs: &[ChannelFiles], bundle: &Bundle) -> Result<Answer, RunFault>
-    ensures ok { IfOk result (HoldsPlaced logs.now bundle.now) }
-    ensures memory { IfErr result (λ f. f ≡ RunFault.Memory) }
-{
-    match placed_text(alloc, logs, bundle) {
-        Ok(text) => Ok(Answer {
-            outcome: Outcome::Done,
-            text: Text::of(alloc, text),
-        }),
-        Err(_) => Err(RunFault::Memory),
-    }
-}
-
-/// That text, and what a verdict on the bundle won't see and it doesn't say. The bundle is leaked: the end of the process frees it.
-fn report_placed(
-    alloc: Global,
-    logs: &[ChannelFiles],
-    imported: ImportedBundle,
-) -> Result<Report, RunFault>
-    ensures answer { IfOk result (λ held. HoldsPlaced logs.now imported.bundle held.answer) }
-    ensures notes { IfOk result (λ held. held.notes.items ≡ imported.notes.items) }
-    ensures memory { IfErr result (λ f. f ≡ RunFault.Memory) }
-{
-    let ImportedBundle { bundle, notes } = imported;
-    let answer = placed_found(alloc, logs, &bundle);
-    mem::forget(bundle);
-    Ok(Report {
-        answer: answer?,
-        notes,
-    })
-}
-
 /// The bundle, or that some files are of none of its channels.
 fn report_filed(
     alloc: Global,
@@ -82,12 +46,12 @@ fn report_filed(
     text: &[u8],
     imported: ImportedBundle,
 ) -> Result<Report, RunFault>
-    requires { ImportsLogs grants (log_files grants accepted.now logs.now) text.now imported.bundle imported.notes.items }
+    requires { ImportsLogs grants (log_files accepted.now logs.now) text.now imported.bundle imported.notes.items }
     ensures ok { IfOk result (HoldsReport (ImportsWithFiles accepted.now logs.now grants is_explained) text.now) }
     ensures memory { IfErr result (λ f. f ≡ RunFault.Memory) }
 {
     let Some(name) = unnamed(logs, imported.bundle.channels()) else {
-        return report_placed(alloc, logs, imported);
+        return report_imported(alloc, imported);
     };
     match Vec::from_slice(alloc, name) {
         Ok(name) => report_refused(alloc, is_explained, text, Refused::Files(name)),
@@ -140,7 +104,7 @@ impl<'a> Reporter for FileImport<'a> {
 }
 
 /// Reads the head of a bundle, whose journals are those of binary log files. If it is imported, its text by version 3 of the format is written to
-/// the streams, with a line for the place of each entry before that of the entry, and with a line for each thing that a verdict rests on by what the operator grants and answers for, or because a log has no checksums; and to
+/// the streams, with a line for each thing that a verdict rests on by what the operator grants and answers for, or because a log has no checksums; and to
 /// `errors` a line for each that the text doesn't say. If it is refused, nothing is written to the streams, and to `errors` the line of the
 /// refusal: a line of the head, or a file and the offset of an event. If `is_explained`, also the line of the head that it names.
 pub fn run_import_files<S: Source, W: Sink, E: Sink>(

@@ -169,7 +169,6 @@ fn put_cause(
         ImportCause::Weights(gtid, table, column) => {
             put_unweighed(alloc, out, *gtid, table, *column)
         }
-        ImportCause::Cascade => put(out, "cascade"),
     }
 }
 

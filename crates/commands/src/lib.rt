@@ -1,6 +1,6 @@
-//! The commands as a library, over any reader and writer: `run_set`, `run_position`, `run_audit`, `run_list`, `run_explain`, `run_json`,
-//! `run_upgrade`, `run_states`, `run_events`, `run_import`, `apply_bundle`, `apply_and_tell`, `run_version`; and over a bundle that was read
-//! `apply_decoded`, `merge_decoded` and `apply_journals`, by threads.
+//! The commands as a library, over any reader and writer: `run_set`, `run_position`, `run_audit`, `run_list`, `run_explain`, `run_upgrade`,
+//! `run_states`, `run_events`, `run_import`, `apply_bundle`, `apply_and_tell`, `run_version`; and over a bundle that was read `apply_decoded`,
+//! `merge_decoded` and `apply_journals`, by threads.
 //!
 //! What a contract sees: of `Streams` the reader with the bytes that it has left and its failed calls (`Input`), and the writer with the
 //! bytes that it holds and its failed calls (`Output`), each if known.
@@ -51,7 +51,6 @@ mod import_command;
 mod import_fault;
 mod import_files;
 mod import_refusal;
-mod json_command;
 mod laws;
 mod list_command;
 mod log_places;
@@ -86,7 +85,6 @@ pub use explain_command::run_explain;
 pub use history_command::apply_and_tell;
 pub use import_command::run_import;
 pub use import_files::run_import_files;
-pub use json_command::run_json;
 pub use laws::equal_unions_equal_answers;
 pub use list_command::run_list;
 pub use merge_way::merge_decoded;

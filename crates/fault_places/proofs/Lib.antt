@@ -8,6 +8,3 @@ mod LineLeft
 mod Within
 mod Worded
 mod Days
-mod TimesAscii
-mod JsonFound
-mod JsonPlain

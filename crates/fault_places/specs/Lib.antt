@@ -13,7 +13,3 @@ pub mod Differences
 pub mod Orders
 pub mod TwoOrders
 pub mod Explained
-pub mod JsonWords
-pub mod JsonPlaces
-pub mod JsonVerdicts
-pub mod JsonAssumed

@@ -6,9 +6,6 @@
 //!
 //! Each text is one definition (`explain_verdict`, `explain_refusal`). A call fails only if out of memory.
 //!
-//! A verdict or a refusal as JSON is a value that one definition gives (`verdict_json`, `refusal_json`), as text (`verdict_document`,
-//! `refusal_document`): what it names, and each place of the GTIDs that it names, as members of objects.
-//!
 //! Cost: one pass over the lines for each GTID that is shown, and at most four passes over the entries to compare transactions. For each
 //! channel that preserves commit order there is one table of its entries' indexes, in which the entries of each later channel are looked up.
 //! If any table has hidden columns, that of a change is looked up by its name; of a line with hidden values no more is looked at than is
@@ -24,11 +21,6 @@ mod differences;
 mod due;
 mod hidden_values;
 mod inverted_text;
-mod json_assumed;
-mod json_places;
-mod json_refusal;
-mod json_verdict;
-mod json_words;
 mod laws;
 mod lines;
 mod log_places;
@@ -44,8 +36,6 @@ mod values;
 mod verdict_text;
 mod wanted;
 
-pub use json_refusal::refusal_document;
-pub use json_verdict::verdict_document;
 pub use laws::{days_have_their_dates, hidden_values_are_left_out, two_orders_are_found};
 pub use lines::{put, put_number, put_shown};
 pub use places::put_line;

@@ -8,9 +8,9 @@ use row_images::count;
 use std::alloc::AllocError;
 
 /// The year 10000, in microseconds since 1970, before which times are.
-pub(crate) const END_OF_TIMES: u64 = 253_402_300_800_000_000;
+const END_OF_TIMES: u64 = 253_402_300_800_000_000;
 
-pub(crate) fn is_place(line: &[u8]) -> bool
+fn is_place(line: &[u8]) -> bool
     ensures { result ≡ is_place line.now }
 {
     line.starts_with(b"place ")

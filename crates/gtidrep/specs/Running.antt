@@ -10,7 +10,6 @@ use Rattle.commands.specs.Bundles.{Audits, Upgrades, Applies}
 use Rattle.commands.specs.Listings.{Lists}
 use Rattle.commands.specs.Summaries.{Summarizes}
 use Rattle.commands.specs.Explaining.{Explains}
-use Rattle.commands.specs.JsonAudits.{AuditsAsJson}
 use Rattle.commands.specs.States.{IsStatesAnswer}
 use Rattle.commands.specs.Events.{IsEventsAnswer, HasEndedEarly}
 use Rattle.commands.specs.Imports.{Imports, ImportsWithFiles}
@@ -38,7 +37,6 @@ doing_of logs (Audit order listing.Verdict) = answers (to_all (Audits order))
 doing_of logs (Audit order listing.All) = answers (to_all Lists)
 doing_of logs (Audit order listing.Summary) = answers (to_all Summarizes)
 doing_of logs (Audit order listing.Explained) = reports (Explains order)
-doing_of logs (Audit order listing.Json) = answers (to_all (AuditsAsJson order))
 doing_of logs (Upgrade target) = answers (to_all (Upgrades target))
 doing_of logs States = answers_in_parts (to_all IsStatesAnswer)
 doing_of logs (Import grants accepted is_explained) = reports (Imports accepted grants is_explained)

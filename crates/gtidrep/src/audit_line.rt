@@ -16,8 +16,6 @@ pub enum Listing {
     Summary,
     /// On standard error the places in the input of what the verdict names.
     Explained,
-    /// In place of its line a JSON object, with what it names and where the input has that.
-    Json,
 }
 
 fn all_flag<'a>(alloc: Global) -> Arg<'a> {
@@ -47,17 +45,6 @@ fn explain_flag<'a>(alloc: Global) -> Result<Arg<'a>, AllocError> {
         .conflicts_with("all")
 }
 
-fn json_flag<'a>(alloc: Global) -> Result<Arg<'a>, AllocError> {
-    flag(
-        alloc,
-        "json",
-        "prints the verdict as one JSON object, with what it names and where the input has that",
-    )
-    .conflicts_with("all")?
-    .conflicts_with("summary")?
-    .conflicts_with("explain")
-}
-
 /// The flag that asks for one order: what is listed goes by sources.
 fn unlisted_flag<'a>(alloc: Global) -> Result<Arg<'a>, AllocError> {
     ordered_flag(alloc)
@@ -74,7 +61,6 @@ pub(crate) fn audit_command<'a>(alloc: Global) -> Result<clap::Command<'a>, Allo
         .arg(progress_flag(alloc))?;
     let command = with_flag(command, explain_flag(alloc))?;
     let command = with_flag(command, summary_flag(alloc))?;
-    let command = with_flag(command, json_flag(alloc))?;
     with_flag(command, unlisted_flag(alloc))
 }
 
@@ -85,9 +71,6 @@ pub(crate) fn listing_of(matches: &ArgMatches) -> Listing {
     }
     if matches.get_flag("summary") {
         return Listing::Summary;
-    }
-    if matches.get_flag("json") {
-        return Listing::Json;
     }
     if matches.get_flag("all") {
         Listing::All

@@ -40,7 +40,6 @@ error shows where these stand: channels, entries, lines and changes; of a line t
 With --ordered two sources may write one row, as after a failover: `reordered` and `concurrent` then name two transactions
 that share a key and stand in two orders, or in none. Where a bundle of version 3 assumes something, `sound if` names it.
 With --summary a line for each pair of sources and table says how many keys they share, and which is the first.
-With --json the line is one JSON object, with what the verdict names and where the input and the servers' logs have it.
 
 Example:
   gtidrep audit < examples/ring.bundle

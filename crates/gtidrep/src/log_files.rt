@@ -38,52 +38,28 @@ fn read_log(rt: &HostRuntime, progress: &mut Progress<'_>, name: &str) -> Result
     }
 }
 
-/// The name of a file in its folder.
-fn base_name(file: &str) -> &str {
-    match file.rsplit_once('/') {
-        Some((_, name)) => name,
-        None => file,
-    }
-}
-
-/// A channel without files.
-fn channel_of(alloc: Global, channel: &str) -> Result<ChannelFiles, AllocError> {
+/// A channel with its first file.
+fn channel_of(alloc: Global, channel: &str, file: Vec<u8>) -> Result<ChannelFiles, AllocError> {
     let name = Vec::from_slice(alloc, channel.as_bytes())?;
-    Ok(ChannelFiles {
-        name,
-        files: Vec::new(alloc),
-        names: Vec::new(alloc),
-    })
-}
-
-/// Adds a file of this name to those of a channel.
-fn push_file(
-    alloc: Global,
-    log: &mut ChannelFiles,
-    name: &str,
-    file: Vec<u8>,
-) -> Result<(), AllocError> {
-    log.names
-        .push(Vec::from_slice(alloc, base_name(name).as_bytes())?)?;
-    log.files.push(file)?;
-    Ok(())
+    let mut files = Vec::new(alloc);
+    files.push(file)?;
+    Ok(ChannelFiles { name, files })
 }
 
 /// Adds a file to those of its channel.
 fn add_file(
     alloc: Global,
     logs: &mut Vec<ChannelFiles>,
-    word: &LogWord<'_>,
+    channel: &str,
     file: Vec<u8>,
 ) -> Result<(), AllocError> {
     for log in logs.iter_mut() {
-        if log.name.as_slice() == word.channel.as_bytes() {
-            return push_file(alloc, log, word.file, file);
+        if log.name.as_slice() == channel.as_bytes() {
+            log.files.push(file)?;
+            return Ok(());
         }
     }
-    let mut log = channel_of(alloc, word.channel)?;
-    push_file(alloc, &mut log, word.file, file)?;
-    logs.push(log)?;
+    logs.push(channel_of(alloc, channel, file)?)?;
     Ok(())
 }
 
@@ -99,7 +75,7 @@ pub(crate) fn read_logs(
             Ok(file) => file,
             Err(ending) => return Err(ending),
         };
-        let Ok(()) = add_file(rt.alloc(), &mut logs, word, file) else {
+        let Ok(()) = add_file(rt.alloc(), &mut logs, word.channel, file) else {
             return Err(Ending::Ran(Err(RunFault::Memory)));
         };
     }

@@ -8,8 +8,8 @@ use crate::line::Command;
 use binlog_bundle::ChannelFiles;
 use commands::{
     Outcome, RunFault, Sink, Source, Streams, apply_and_tell, apply_bundle, run_audit, run_events,
-    run_explain, run_import, run_import_files, run_json, run_list, run_position, run_set,
-    run_states, run_summary, run_upgrade, run_version,
+    run_explain, run_import, run_import_files, run_list, run_position, run_set, run_states,
+    run_summary, run_upgrade, run_version,
 };
 use serving::Order;
 use std::alloc::Global;
@@ -32,7 +32,6 @@ fn run_listing<S: Source, W: Sink, E: Sink>(
         Listing::All => run_list(alloc, streams),
         Listing::Summary => run_summary(alloc, streams),
         Listing::Explained => run_explain(alloc, order, streams, errors),
-        Listing::Json => run_json(alloc, order, streams),
     }
 }
 

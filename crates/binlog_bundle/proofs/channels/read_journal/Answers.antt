@@ -1,4 +1,4 @@
-use Rattle.std.proofs.Common.{ap, ◌∙◌}
+use Rattle.std.proofs.Common.{List, subst, ap, ◌∙◌}
 use Rattle.gtid_set.specs.Sets.{Gtids}
 use Rattle.binlog_bundle.specs.Accepted.{accepted_in}
 use Rattle.binlog_bundle.specs.Logs.{terms_of}
@@ -12,7 +12,7 @@ returns-in-Ok-write_journal-clause-found g c =
       previous = log.previous;
       entries = log.entries.items;
       varied = log.varied.items;
-      log = c.in-Ok.ensures.found;
+      log = subst (λ (opening : Gtids). (g.L.Logs.origin c.args.logs.now).is_log c.args.name.now c.args.log.now opening log.previous log.entries.items log.varied.items) c.opening_set.ensures c.in-Ok.ensures.found;
       writes = c.in-Ok-write_journal.ensures.written;
       answered = c.in-Ok-write_journal.ensures.statements ∙ ap (λ (accepted : Gtids). accepted_in accepted log.entries.items) c.accepted.ensures;
     }
@@ -21,5 +21,5 @@ pub returns-in-Err-write_journal-clause-refused : goal.returns-in-Err-write_jour
 returns-in-Err-write_journal-clause-refused g c before =
     let log = c.in-Ok.read.log in
     not_written (terms_of c.args.grants (g.L.Logs.origin c.args.logs.now)) c.args.start.now c.args.name.now c.args.log.now c.in-Err-write_journal.fault log.previous log.entries.items log.varied.items
-    c.in-Ok.ensures.found
+    (subst (λ (opening : Gtids). (g.L.Logs.origin c.args.logs.now).is_log c.args.name.now c.args.log.now opening log.previous log.entries.items log.varied.items) c.opening_set.ensures c.in-Ok.ensures.found)
     c.in-Err-write_journal.ensures.refused

@@ -44,8 +44,9 @@ returns-in-Ok-keep_channel-clause-fed g c =
       said = c.in-Ok-keep_channel.ensures.said;
       assumed =
           c.in-Ok-keep_channel.ensures.assumed
-          ∙ ap (λ (unchecked : Bool). c.args.progress.now.assumed.items ++ assumed_of (name_in own) c.args.start.now.opened executed unchecked c.in-Ok-take_log.read.statements) (c.in-Ok-take_log.ensures.unchecked ∙ ap (λ (name : List ℕ). (g.L.Logs.origin c.args.logs.now).is_unchecked name c.args.log.now) c.name_in.ensures);
+          ∙ ap (λ (unchecked : Bool). c.args.progress.now.assumed.items ++ assumed_of (name_in own) c.args.start.now.opened executed unchecked c.in-Ok-take_log.read.statements) (c.in-Ok-take_log.ensures.unchecked ∙ ap (g.L.Logs.origin c.args.logs.now).is_unchecked c.name_in.ensures);
       noted = c.in-Ok-keep_channel.ensures.noted;
+      same_head = c.keep_channel.ensures.head;
     }
 
 pub returns-clause-refused : goal.returns-clause-refused

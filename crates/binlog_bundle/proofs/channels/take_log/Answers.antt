@@ -20,5 +20,4 @@ returns-in-Err-add-clause-refused g c before fed =
       imports = c.in-Ok.ensures.found;
       stops = subst (λ (xs : List ℕ). StopsAt c.in-Err-add.fault (before ++ xs)) c.deref.ensures.value (c.in-Err-add.ensures.refused before fed);
     })
-    (subst (λ (ignored : List (List ℕ)). IsJournalFault ignored c.args.start.now.start.schema c.args.log.now c.in-Err-add.fault c.journal_fault.result) c.ignored.ensures
-    (subst (λ (tables : List Table). IsJournalFault c.ignored.result.now tables c.args.log.now c.in-Err-add.fault c.journal_fault.result) c.schema.ensures c.journal_fault.ensures))
+    (subst (λ (tables : List Table). IsJournalFault tables c.args.log.now c.in-Err-add.fault c.journal_fault.result) c.schema.ensures c.journal_fault.ensures)

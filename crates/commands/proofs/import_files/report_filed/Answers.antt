@@ -7,9 +7,9 @@ use Rattle.commands.proofs.import_files.report_filed.Goals as goal
 
 pub returns-in_default-clause-ok : goal.returns-in_default-clause-ok
 returns-in_default-clause-ok c =
-    filed_so c.args.accepted.now c.args.grants c.args.is_explained c.args.logs.now c.args.text.now c.args.imported.bundle c.args.imported.notes.items c.report_placed.result c.requires
+    filed_so c.args.accepted.now c.args.grants c.args.is_explained c.args.logs.now c.args.text.now c.args.imported.bundle c.args.imported.notes.items c.report_imported.result c.requires
     (subst (λ (cs : List BundleChannel). unnamed c.args.logs.now cs ≡ None) c.channels.ensures (sym c.in_default.ensures))
-    c.report_placed.ensures.answer c.report_placed.ensures.notes
+    c.report_imported.ensures.answer c.report_imported.ensures.notes
 
 pub returns-in-Ok-clause-ok : goal.returns-in-Ok-clause-ok
 returns-in-Ok-clause-ok c =

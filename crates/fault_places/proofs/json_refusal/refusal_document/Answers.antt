@@ -1,6 +1,0 @@
-use Rattle.std.proofs.Common.{map, subst, sym}
-use Rattle.fault_places.proofs.JsonPlain.{ArePlain, plain_refusal}
-use Rattle.fault_places.proofs.json_refusal.refusal_document.Goals as goal
-
-pub text_of-requires : goal.text_of-requires
-text_of-requires c = (subst ArePlain (sym c.in_ok-members.ensures) (plain_refusal (map (λ x. x.now) c.deref.result.now) c.args.refusal.now)).is
